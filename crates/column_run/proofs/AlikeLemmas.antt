@@ -18,8 +18,8 @@ use Rattle.session_meaning.specs.Preparing.{with_present, BuildsIf}
 use Rattle.told_lines.specs.Lines.{Line}
 use Rattle.session_meaning.specs.Effects.{Effect, RunEffect, AreBeats, circuit_after, setup_after, one_more, places_in}
 use Rattle.session_meaning.proofs.UniqueBuilds.{HasTexts-unique}
-use Rattle.lane_session.proofs.RefusalLemmas.{refused_alike}
-use Rattle.lane_session.proofs.BeatLemmas.{length-beats}
+use Rattle.session_meaning.proofs.LetterLemmas.{refused_alike}
+use Rattle.session_meaning.proofs.BeatRowLemmas.{length-beats}
 
 -- all but the states
 abbrev pub less_states : SessionData → SessionData
@@ -107,7 +107,7 @@ pub alike-refused : (one two : SessionData) (command : LaneCommand) (lane other 
     refusal_of two (in_column other command) ≡ refusal_of one (in_column lane command)
 alike-refused one two command lane other alike =
     ap (λ (s : SessionData). refusal_of s (in_column other command)) (beside one two alike)
-    ∙ refused_alike one two.state one.limit one.count one.missed one.bound one.kept one.fresh command other lane
+    ∙ refused_alike one two.state command other lane
 
 -- how many lines a command tells, by the number of places of the clocks
 abbrev run_lines : Run → ℕ → ℕ

@@ -1,4 +1,5 @@
 pub mod LineLemmas
+pub mod FormLemmas
 pub mod AlikeLemmas
 pub mod EndLemmas
 pub mod TurnLemmas

@@ -1,7 +1,7 @@
 //! What a script for several columns does when it runs, and what is answered of it.
 //!
-//! The main call is [`run_batch`], which obeys the lines of a script in a session of columns over a printer, whose sink is
-//! sent their rows, and tells it the line of the refusal that ends it, if one does. The layer above uses that it tells what `IsBatchAnswer` of `specs/`
+//! The main call is [`run_batch`], which obeys the lines of a script in a session over a stage of columns, prints their rows, and tells the
+//! line of the refusal that ends it, if one does. The layer above uses that it tells what `IsBatchAnswer` of `specs/`
 //! says: in each column the script runs as a plain script, whose values are the column's letters; the columns' lines are
 //! written row by row, each after the number of its column; and all columns end at the same refused line, if at any.
 //!

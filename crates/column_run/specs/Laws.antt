@@ -2,7 +2,7 @@
 use Rattle.std.specs.Prelude.{◌≡◌, ℕ, ◌<◌, List, Option}
 use Rattle.session_meaning.specs.Sessions.{SessionData}
 use Rattle.run_ends.specs.Answers.{Answer}
-use Rattle.lane_run.specs.Batches.{IsBatchAnswer}
+use Rattle.column_run.specs.Batches.{IsBatchAnswer}
 
 -- a script in one column or more has one answer
 abbrev pub BatchAnswersAreUnique : Type 0

@@ -1,35 +1,37 @@
 //! Running the lines of a script in columns.
 
-ghost use Rattle.std.specs.Prelude.{◌≡◌, ◌≢◌, IfErr};
+ghost use Rattle.std.specs.Prelude.{◌≡◌, ◌≢◌, true, IfErr};
 ghost use Rattle.line_words.specs.Files as file;
-ghost use Rattle.lane_session.specs.LaneSessions.{session_in};
+ghost use Rattle.session_meaning.specs.Columns.{column_of};
 ghost use Rattle.run_ends.specs.Stops.{faults_written, IsRefusedOnce};
-ghost use Rattle.lane_run.specs.Batches.{IsBatchAnswer};
-ghost use Rattle.lane_run.specs.Turns.{TakesTurn, TellsHalt};
+ghost use Rattle.column_run.specs.Batches.{IsBatchAnswer};
+ghost use Rattle.column_run.specs.Turns.{TakesTurn, TellsHalt};
 ghost use Rattle.run_ends.specs.Ends.{IsToldBy};
 
+use column_stage::ColumnStage;
+use cosmos_session::Session;
 use group_analysis::Analyst;
 use lane_script::read_lane_command;
-use lane_session::LaneSession;
 use line_words::{Line, cut_line, front, lines};
 use port_edge::Sink;
 use run_ends::{End, Stop};
 use script_meaning::{Halt, Turn};
 use script_run::{refuse_halt, script_code, turn_of};
 use std::alloc::Global;
-use told_lines::Printer;
+use told_lines::{Lines, Printer};
 use wave_print::FaultCode;
 
 /// Runs the lines of a script in each column, in order, to the end or to the first that is refused, and writes the
-/// line of its refusal.
-pub fn run_batch<S: Sink + Drop, A: Analyst>(
+/// line of its refusal. The printer is to number columns.
+pub fn run_batch<M: ColumnStage, S: Sink + Drop, A: Analyst>(
     alloc: Global,
-    session: &mut LaneSession,
+    session: &mut Session<M>,
     text: &[u8],
     out: &mut Printer<S>,
     analyst: &mut A,
 ) -> Result<End, Stop>
-    ensures told { IsToldBy (IsBatchAnswer session.old.core.lanes (file.cut_line text.now) (session_in session.old.core) (file.lines_in text.now))
+    requires { out.old.page.numbered ≡ true }
+    ensures told { IsToldBy (IsBatchAnswer (M.lanes session.old.stage) (file.cut_line text.now) (column_of M.states session.old) (file.lines_in text.now))
         out.old.page.written out.new.page.written (A.analysed analyst.old) (A.analysed analyst.new) result }
     ensures no_read { IfErr result (λ stop. stop ≢ Stop.Read) }
     ensures write { out.new.faults ≡ faults_written out.old.faults result }
@@ -48,18 +50,18 @@ pub fn run_batch<S: Sink + Drop, A: Analyst>(
 
 // Obeys the lines of a script in each column, in order, to the end or to the first that is refused, and tells which
 // one that is.
-fn obey_batch<S: Sink, A: Analyst>(
+fn obey_batch<M: ColumnStage, L: Lines, A: Analyst>(
     alloc: Global,
-    session: &mut LaneSession,
+    session: &mut Session<M>,
     text: &[u8],
-    out: &mut S,
+    out: &mut L,
     analyst: &mut A,
 ) -> Result<Halt, Stop>
-    ensures told { TellsHalt session.old.core.lanes (file.cut_line text.now) (session_in session.old.core) (file.lines_in text.now) session.new.core
-        (S.written out.old) (S.written out.new) (A.analysed analyst.old) (A.analysed analyst.new) result }
+    ensures told { TellsHalt L.hear L.part (M.lanes session.old.stage) (file.cut_line text.now) (column_of M.states session.old) (file.lines_in text.now)
+        (column_of M.states session.new 0) (L.heard out.old) (L.heard out.new) (A.analysed analyst.old) (A.analysed analyst.new) result }
     ensures no_read { IfErr result (λ stop. stop ≢ Stop.Read) }
-    ensures write { S.faults out.new ≡ faults_written (S.faults out.old) result }
-    ensures refused { IsRefusedOnce (S.refusals out.old) (S.refusals out.new) result }
+    ensures write { L.faults out.new ≡ faults_written (L.faults out.old) result }
+    ensures refused { IsRefusedOnce (L.refusals out.old) (L.refusals out.new) result }
 {
     // a call for the proof alone: a session keeps itself well formed
     let _circuit = session.circuit();
@@ -75,26 +77,26 @@ fn obey_batch<S: Sink, A: Analyst>(
 }
 
 // Runs one line in each column; the one that holds the first byte too many of the script is refused.
-fn run_line<S: Sink, A: Analyst>(
+fn run_line<M: ColumnStage, L: Lines, A: Analyst>(
     alloc: Global,
-    session: &mut LaneSession,
+    session: &mut Session<M>,
     cut: Option<u64>,
     line: Line<'_>,
-    out: &mut S,
+    out: &mut L,
     analyst: &mut A,
 ) -> Result<Turn, Stop>
-    ensures turn { TakesTurn cut (line.entry.number, line.entry.bytes.now) session.old.core session.new.core
-        (S.written out.old) (S.written out.new) (A.analysed analyst.old) (A.analysed analyst.new) result }
-    ensures lanes { session.new.core.lanes ≡ session.old.core.lanes }
+    ensures turn { TakesTurn L.hear L.part (M.lanes session.old.stage) cut (line.entry.number, line.entry.bytes.now)
+        (column_of M.states session.old) (column_of M.states session.new) (L.heard out.old) (L.heard out.new) (A.analysed analyst.old) (A.analysed analyst.new) result }
+    ensures lanes { M.lanes session.new.stage ≡ M.lanes session.old.stage }
     ensures no_read { IfErr result (λ stop. stop ≢ Stop.Read) }
-    ensures write { S.faults out.new ≡ faults_written (S.faults out.old) result }
-    ensures refused { IsRefusedOnce (S.refusals out.old) (S.refusals out.new) result }
+    ensures write { L.faults out.new ≡ faults_written (L.faults out.old) result }
+    ensures refused { IsRefusedOnce (L.refusals out.old) (L.refusals out.new) result }
 {
     if cut == Some(line.number) {
         return Ok(Turn::Refused(FaultCode::S11TooLong));
     }
     match read_lane_command(alloc, line.bytes, session.lanes()) {
-        Ok(Some(command)) => turn_of(session.apply(&command, analyst, out)),
+        Ok(Some(command)) => turn_of(session.apply_columns(&command, analyst, out)),
         Ok(None) => Ok(Turn::Accepted),
         Err(fault) => match script_code(fault) {
             Some(code) => Ok(Turn::Refused(code)),

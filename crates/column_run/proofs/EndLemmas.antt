@@ -13,18 +13,18 @@ use Rattle.session_meaning.specs.declared.fault.Refusal.{Refusal}
 use Rattle.session_meaning.specs.Sessions.{SessionData, IsReady, places_of}
 use Rattle.session_meaning.specs.Refusals.{refusal_of}
 use Rattle.session_meaning.specs.Preparing.{builds, IsBuild, BuildsIf}
-use Rattle.told_lines.specs.Lines.{Line}
+use Rattle.told_lines.specs.Lines.{Line, Told}
 use Rattle.session_meaning.specs.Outcomes.{Performs}
 use Rattle.session_meaning.proofs.EffectLemmas as effects
 use Rattle.session_meaning.proofs.SizeLemmas.{texts_or_size}
 use Rattle.session_meaning.proofs.UniqueBuilds.{HasTexts-unique}
 use Rattle.run_ends.proofs.SizeLemmas.{not_both}
 use Rattle.script_meaning.proofs.LowerLemmas.{command_ends, ready-performs}
-use Rattle.lane_session.specs.Outcomes.{PerformsTogether}
-use Rattle.lane_session.proofs.RowLemmas.{rows_exist, choose}
-use Rattle.lane_session.proofs.RefusalLemmas.{builds_alike}
-use Rattle.lane_session.proofs.FormLemmas.{formed_in}
-use Rattle.lane_run.proofs.AlikeLemmas.{AreAlike, beside, alike-effect, alike-built, alike-refused, lines_told, length-effect}
+use Rattle.session_meaning.specs.Columns.{PerformsInAll}
+use Rattle.session_meaning.proofs.LetterLemmas.{builds_alike}
+use Rattle.session_meaning.proofs.RowLemmas.{choose, rows_exist}
+use Rattle.column_run.proofs.FormLemmas.{formed_in}
+use Rattle.column_run.proofs.AlikeLemmas.{AreAlike, beside, alike-effect, alike-built, alike-refused, lines_told, length-effect}
 
 -- columns that are alike and ready
 pub record AreReady (lanes : ℕ) (columns : ℕ → SessionData) : Type 0 where
@@ -33,12 +33,12 @@ pub record AreReady (lanes : ℕ) (columns : ℕ → SessionData) : Type 0 where
   pub ready : (lane : ℕ) → lane < lanes → IsReady (columns lane)
 
 -- how a command ends in columns
-pub data EndsTogether (lanes : ℕ) (columns : ℕ → SessionData) (command : LaneCommand) : Type 0 where
-  all_refused : (refusal : Refusal) → ((lane : ℕ) → lane < lanes → refusal_of (columns lane) (in_column lane command) ≡ Some refusal) → EndsTogether lanes columns command
+pub data EndsInAll (lanes : ℕ) (columns : ℕ → SessionData) (command : LaneCommand) : Type 0 where
+  all_refused : (refusal : Refusal) → ((lane : ℕ) → lane < lanes → refusal_of (columns lane) (in_column lane command) ≡ Some refusal) → EndsInAll lanes columns command
   all_large : (fault : BuildFault) → ((lane : ℕ) → lane < lanes → refusal_of (columns lane) (in_column lane command) ≡ None) →
-      ((lane : ℕ) → builds (in_column lane command) ≡ true) → TellsRefused (columns 0).large (columns 0).circuit.graph fault → EndsTogether lanes columns command
-  all_performed : (new : ℕ → SessionData) (text : List ℕ) (texts : List GroupTextData) → PerformsTogether lanes columns command new text texts →
-      EndsTogether lanes columns command
+      ((lane : ℕ) → builds (in_column lane command) ≡ true) → TellsRefused (columns 0).large (columns 0).circuit.graph fault → EndsInAll lanes columns command
+  all_performed : (new : ℕ → SessionData) (rows : List Told) (texts : List GroupTextData) → PerformsInAll lanes columns command new rows texts →
+      EndsInAll lanes columns command
 
 module _ (lanes : ℕ) (columns : ℕ → SessionData) (are : AreReady lanes columns) (command : LaneCommand) (formed : IsFormed lanes command) where
   -- each column has the circuit of the first
@@ -50,7 +50,7 @@ module _ (lanes : ℕ) (columns : ℕ → SessionData) (are : AreReady lanes col
   same_refusal found is lane inside = alike-refused (columns 0) (columns lane) command 0 lane (are.alike lane inside) ∙ is
 
   -- what a column's command comes to
-  record Told (fresh : List GroupTextData) (lane : ℕ) (end : SessionData × List Line) : Type 0 where
+  record ComesTo (fresh : List GroupTextData) (lane : ℕ) (end : SessionData × List Line) : Type 0 where
     pub performs : Performs (columns lane) (in_column lane command) end.0 end.1 fresh
     pub counted : length end.1 ≡ lines_told command (places_of (columns 0).clocks)
 
@@ -61,7 +61,7 @@ module _ (lanes : ℕ) (columns : ℕ → SessionData) (are : AreReady lanes col
 
   -- a command that is performed in a column
   told : (fresh : List GroupTextData) (lane : ℕ) → lane < lanes → (new : SessionData) (lines : List Line) (texts : List GroupTextData) → texts ≡ fresh →
-      Performs (columns lane) (in_column lane command) new lines texts → (end : SessionData × List Line) × Told fresh lane end
+      Performs (columns lane) (in_column lane command) new lines texts → (end : SessionData × List Line) × ComesTo fresh lane end
   told fresh lane inside new lines texts same performs = (
     (new, lines),
     record {
@@ -78,22 +78,22 @@ module _ (lanes : ℕ) (columns : ℕ → SessionData) (are : AreReady lanes col
   )
 
   -- what is performed in each column is performed in all
-  performed : (fresh : List GroupTextData) → ((lane : ℕ) → lane < lanes → (end : SessionData × List Line) × Told fresh lane end) → EndsTogether lanes columns command
+  performed : (fresh : List GroupTextData) → ((lane : ℕ) → lane < lanes → (end : SessionData × List Line) × ComesTo fresh lane end) → EndsInAll lanes columns command
   performed fresh each =
-      let all : (f : ℕ → SessionData × List Line) × ((lane : ℕ) → lane < lanes → Told fresh lane (f lane)) =
-      choose lanes (Told fresh) (λ lane. (columns lane, [])) each in
+      let all : (f : ℕ → SessionData × List Line) × ((lane : ℕ) → lane < lanes → ComesTo fresh lane (f lane)) =
+      choose lanes (ComesTo fresh) (λ lane. (columns lane, [])) each in
       let rows = rows_exist lanes (lines_told command (places_of (columns 0).clocks)) (λ lane. (all.0 lane).1) (λ lane inside. (all.1 lane inside).counted) in
       all_performed (λ lane. (all.0 lane).0) rows.0 fresh
       (record { lines = λ lane. (all.0 lane).1; each = λ lane inside. (all.1 lane inside).performs; rows = rows.1 })
 
   -- a command that builds nothing
-  still_end : builds (in_column 0 command) ≡ false → refusal_of (columns 0) (in_column 0 command) ≡ None → EndsTogether lanes columns command
+  still_end : builds (in_column 0 command) ≡ false → refusal_of (columns 0) (in_column 0 command) ≡ None → EndsInAll lanes columns command
   still_end still allowed = performed [] each
     where
       none : (lane : ℕ) → builds (in_column lane command) ≡ false
       none lane = builds_alike command lane 0 ∙ still
 
-      each : (lane : ℕ) → lane < lanes → (end : SessionData × List Line) × Told [] lane end
+      each : (lane : ℕ) → lane < lanes → (end : SessionData × List Line) × ComesTo [] lane end
       each lane inside =
           elim (command_ends (columns lane) (in_column lane command) (are.ready lane inside) (formed_in lanes lane command formed)) [
             | effects.refused refusal is ↦ let no : None ≡ Some refusal = sym (same_refusal None allowed lane inside) ∙ is in absurd (cc)
@@ -105,7 +105,7 @@ module _ (lanes : ℕ) (columns : ℕ → SessionData) (are : AreReady lanes col
 
   -- one that builds, if the circuit has texts
   built_end : builds (in_column 0 command) ≡ true → refusal_of (columns 0) (in_column 0 command) ≡ None → (texts : List GroupTextData) → HasTexts (columns 0).large (columns 0).circuit.graph texts →
-      EndsTogether lanes columns command
+      EndsInAll lanes columns command
   built_end building allowed texts has = performed (new_texts (columns 0).kept texts) each
     where
       fresh : List GroupTextData
@@ -128,7 +128,7 @@ module _ (lanes : ℕ) (columns : ℕ → SessionData) (are : AreReady lanes col
           ∙ ap₂ new_texts (ap (λ (s : SessionData). s.kept) (beside (columns 0) (columns lane) (are.alike lane inside)))
           (HasTexts-unique (columns lane).large (columns lane).circuit.graph build.present texts build.has (has_in lane inside))
 
-      each : (lane : ℕ) → lane < lanes → (end : SessionData × List Line) × Told (new_texts (columns 0).kept texts) lane end
+      each : (lane : ℕ) → lane < lanes → (end : SessionData × List Line) × ComesTo (new_texts (columns 0).kept texts) lane end
       each lane inside =
           elim (command_ends (columns lane) (in_column lane command) (are.ready lane inside) (formed_in lanes lane command formed)) [
             | effects.refused refusal is ↦ let no : None ≡ Some refusal = sym (same_refusal None allowed lane inside) ∙ is in absurd (cc)
@@ -139,23 +139,23 @@ module _ (lanes : ℕ) (columns : ℕ → SessionData) (are : AreReady lanes col
           ]
 
   -- any command
-  pub ends_together : EndsTogether lanes columns command
-  ends_together =
+  pub ends_in_all : EndsInAll lanes columns command
+  ends_in_all =
       by (refusal_of (columns 0) (in_column 0 command)) (builds (in_column 0 command)) refl refl
       (texts_or_size (columns 0).large (columns 0).circuit.graph (are.ready 0 are.some).netlist.wired)
     where
       by : (found : Option Refusal) (building : Bool) → refusal_of (columns 0) (in_column 0 command) ≡ found → builds (in_column 0 command) ≡ building →
           ((texts : List GroupTextData) × HasTexts (columns 0).large (columns 0).circuit.graph texts) ⊎ ((fault : BuildFault) × TellsRefused (columns 0).large (columns 0).circuit.graph fault) →
-          EndsTogether lanes columns command
+          EndsInAll lanes columns command
       by (Some refusal) building is does size = all_refused refusal (same_refusal (Some refusal) is)
       by None false is does size = still_end does is
       by None true is does (inl has) = built_end does is has.0 has.1
       by None true is does (inr large) = all_large large.0 (same_refusal None is) (λ lane. builds_alike command lane 0 ∙ does) large.1
 
 -- what is performed in columns that are alike and ready leaves them so
-pub ready_together : (lanes : ℕ) (columns new : ℕ → SessionData) (command : LaneCommand) → IsFormed lanes command → (text : List ℕ) (texts : List GroupTextData) → AreReady lanes columns →
-    PerformsTogether lanes columns command new text texts → AreReady lanes new
-ready_together lanes columns new command formed text texts are performs = record {
+pub ready_in_all : (lanes : ℕ) (columns new : ℕ → SessionData) (command : LaneCommand) → IsFormed lanes command → (rows : List Told) (texts : List GroupTextData) → AreReady lanes columns →
+    PerformsInAll lanes columns command new rows texts → AreReady lanes new
+ready_in_all lanes columns new command formed rows texts are performs = record {
   some = are.some;
   alike = λ lane inside.
       let first = performs.each 0 are.some in
