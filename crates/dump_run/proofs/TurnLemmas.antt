@@ -25,7 +25,7 @@ use Rattle.run_ends.specs.declared.stop.Stop.{Stop}
 use Rattle.run_ends.specs.Causes.{plain_cause}
 use Rattle.session_meaning.specs.declared.fault.ApplyFault.{ApplyFault}
 use Rattle.session_meaning.specs.declared.fault.ApplyFault.TheVariants.{Refused, GroupNodes, GroupSwitches, WriteFault, NoMemory}
-use Rattle.session_meaning.specs.Sessions.{SessionData, HeldSession, IsSession}
+use Rattle.session_meaning.specs.Sessions.{SessionData, IsSession}
 use Rattle.session_meaning.specs.Outcomes.{Accepts, Begins, Keeps, Obeys, Performs}
 use Rattle.session_meaning.proofs.PassingLemmas.{known_few}
 use Rattle.session_meaning.specs.Passing.{IsUnseen, KnowsBehind, PassesThrough, Sees, known_behind}
@@ -68,23 +68,23 @@ rests_known sheet state rests = record { inside = rests.inside; shown = λ begun
 
 -- ---- a command that takes no step
 
-module _ (old new : HeldSession) (command : Command) (before after : Sheet) (asked told : List GroupTextData) where
+module _ (old new : SessionData) (command : Command) (before after : Sheet) (asked told : List GroupTextData) where
   -- was kept
-  kept_rests : Keeps old new before after asked told → Rests before old.core.state → Rests after new.core.state
+  kept_rests : Keeps old new before after asked told → Rests before old.state → Rests after new.state
   kept_rests keeps rests =
-      subst (λ (sheet : Sheet). Rests sheet new.core.state) (sym keeps.unheard)
-      (subst (λ (session : HeldSession). Rests before session.core.state) (sym keeps.same) rests)
+      subst (λ (sheet : Sheet). Rests sheet new.state) (sym keeps.unheard)
+      (subst (λ (session : SessionData). Rests before session.state) (sym keeps.same) rests)
 
   module _ (still : is_move command ≡ false) (other : is_watch command ≡ false) where
     -- what it tells are its lines
-    tells_lines : (end : SessionData) (lines : List Line) (texts : List GroupTextData) → Performs old.core command end lines texts →
-        tell_all (told_in old.core.state before) (scenes_of old.core command [] lines end)
+    tells_lines : (end : SessionData) (lines : List Line) (texts : List GroupTextData) → Performs old command end lines texts →
+        tell_all (told_in old.state before) (scenes_of old command [] lines end)
         ≡ told_in end.state (hear_all hear before (of_column 0 lines))
     tells_lines end lines texts performs =
-        parts_told (told_in old.core.state before) (told_in old.core.state before) (told_in old.core.state before)
-        (told_in old.core.state (hear_all hear before (of_column 0 lines))) (map Watched (entries_asked old.core command)) [] (comments lines) end.state
-        (ap (λ (words : List EntryData). tell_all (told_in old.core.state before) (map Watched words)) (no_words old.core command other)) refl
-        (tell_comments old.core.state before lines (no_refusals performs.mid end command lines still performs.does.effect))
+        parts_told (told_in old.state before) (told_in old.state before) (told_in old.state before)
+        (told_in old.state (hear_all hear before (of_column 0 lines))) (map Watched (entries_asked old command)) [] (comments lines) end.state
+        (ap (λ (words : List EntryData). tell_all (told_in old.state before) (map Watched words)) (no_words old command other)) refl
+        (tell_comments old.state before lines (no_refusals performs.mid end command lines still performs.does.effect))
 
     tells_accepted : Accepts hear old command new before after asked told → TellsCommand command old new before after asked told
     tells_accepted accepts =
@@ -97,8 +97,8 @@ module _ (old new : HeldSession) (command : Command) (before after : Sheet) (ask
           wrote = accepts.lines;
           texts = accepts.texts;
           performs = accepts.performs;
-          passes = no_passes old.core command still;
-          tells = tells_lines new.core accepts.lines accepts.texts accepts.performs ∙ ap (told_in new.core.state) (sym accepts.heard);
+          passes = no_passes old command still;
+          tells = tells_lines new accepts.lines accepts.texts accepts.performs ∙ ap (told_in new.state) (sym accepts.heard);
           analysed = accepts.analysed;
         }
 
@@ -112,7 +112,7 @@ module _ (old new : HeldSession) (command : Command) (before after : Sheet) (ask
           wrote = begins.lines;
           texts = begins.texts;
           performs = begins.performs;
-          passes = no_passes old.core command still;
+          passes = no_passes old command still;
           sink = part.sink;
           left = part.longer.more;
           due = ap (λ (t : Telling). t.sheet.due) (tells_lines begins.end begins.lines begins.texts begins.performs) ∙ part.longer.due;
@@ -131,17 +131,17 @@ module _ (old new : HeldSession) (command : Command) (before after : Sheet) (ask
     still_turn refusals now (Err NoMemory) (inr begins) = inr (tells_begun begins.0)
 
     pub still_rests : (refusals now : ℕ) (ended : Result (Unit {0}) ApplyFault) →
-        Obeys hear HearsPart old command new before after asked told refusals now ended → Rests before old.core.state →
-        OnOk (turn_after ended) (Rests after new.core.state)
+        Obeys hear HearsPart old command new before after asked told refusals now ended → Rests before old.state →
+        OnOk (turn_after ended) (Rests after new.state)
     still_rests refusals now (Ok _) obeys rests =
         let accepts = obeys.0 in
         let page = hear_all-page before (of_column 0 accepts.lines) in
-        subst (λ (sheet : Sheet). Rests sheet new.core.state) (sym accepts.heard)
+        subst (λ (sheet : Sheet). Rests sheet new.state) (sym accepts.heard)
         (record {
           closed = page.1 ∙ rests.closed;
-          inside = subst (λ (page : Page). All (IsInside (length new.core.state)) page.entries) (sym page.0)
-              (inside_more (length old.core.state) (length new.core.state) before.page.entries
-              (few_nodes old.core new.core command accepts.lines accepts.texts still accepts.performs) rests.inside);
+          inside = subst (λ (page : Page). All (IsInside (length new.state)) page.entries) (sym page.0)
+              (inside_more (length old.state) (length new.state) before.page.entries
+              (few_nodes old new command accepts.lines accepts.texts still accepts.performs) rests.inside);
         })
     still_rests refusals now (Err (Refused refusal)) obeys rests = kept_rests obeys.0.keeps rests
     still_rests refusals now (Err (GroupNodes node count)) obeys rests = kept_rests obeys.0.keeps rests
@@ -155,18 +155,18 @@ module _ (old new : HeldSession) (command : Command) (before after : Sheet) (ask
   kept_sheet : {H : Type 0} (was is : H) → Keeps old new was is asked told → after ≡ before → Keeps old new before after asked told
   kept_sheet was is keeps same = record { same = keeps.same; unheard = same; unasked = keeps.unasked }
 
-  module _ (moves : is_move command ≡ true) (formed : IsFormed command) (session : IsSession old.core) where
+  module _ (moves : is_move command ≡ true) (formed : IsFormed command) (session : IsSession old) where
     -- what it tells are its steps and phases
     tells_moved : {H : Type 0} (hears : H → Told → H) (was is : H) → Accepts hears old command new was is asked told →
-        Sees begin see_state rest (PassesThrough old.core command) before after → TellsCommand command old new before after asked told
+        Sees begin see_state rest (PassesThrough old command) before after → TellsCommand command old new before after asked told
     tells_moved hears was is accepts sees =
         let other = move_other command moves in
         let performs = accepts.performs in
-        let some = some_passes old.core command sees.passes formed session
-        (performs-allowed old.core new.core command accepts.lines accepts.texts performs) moves sees.through in
+        let some = some_passes old command sees.passes formed session
+        (performs-allowed old new command accepts.lines accepts.texts performs) moves sees.through in
         let all : List Pass = some.0 ∷ some.1 in
-        let lines = silent performs.mid new.core command accepts.lines moves performs.does.effect in
-        let behind = told_in (last_behind old.core.state sees.passes) (see_passes begin see_state rest before sees.passes) in
+        let lines = silent performs.mid new command accepts.lines moves performs.does.effect in
+        let behind = told_in (last_behind old.state sees.passes) (see_passes begin see_state rest before sees.passes) in
         record {
           timely = timely_other (has_begun before) command other;
           begun = ap has_begun sees.seen
@@ -177,17 +177,17 @@ module _ (old new : HeldSession) (command : Command) (before after : Sheet) (ask
           texts = accepts.texts;
           performs = performs;
           passes = sees.through;
-          tells = parts_told (told_in old.core.state before) (told_in old.core.state before) behind behind
-              (map Watched (entries_asked old.core command)) (passing sees.passes) (comments accepts.lines) new.core.state
-              (ap (λ (words : List EntryData). tell_all (told_in old.core.state before) (map Watched words)) (no_words old.core command other))
-              (tell_passing old.core.state before sees.passes) (ap (tell_all behind) lines)
-              ∙ ap (told_in new.core.state) (sym sees.seen);
+          tells = parts_told (told_in old.state before) (told_in old.state before) behind behind
+              (map Watched (entries_asked old command)) (passing sees.passes) (comments accepts.lines) new.state
+              (ap (λ (words : List EntryData). tell_all (told_in old.state before) (map Watched words)) (no_words old command other))
+              (tell_passing old.state before sees.passes) (ap (tell_all behind) lines)
+              ∙ ap (told_in new.state) (sym sees.seen);
           analysed = accepts.analysed;
         }
 
     pub move_turn : {H : Type 0} (hears : H → Told → H) (parts : H → Told → H → Type 0) (was is : H) (refusals now : ℕ)
         (ended : Result (Unit {0}) ApplyFault) → Obeys hears parts old command new was is asked told refusals now ended →
-        OnOk ended (Sees begin see_state rest (PassesThrough old.core command) before after) → IfErr ended (λ _. after ≡ before) →
+        OnOk ended (Sees begin see_state rest (PassesThrough old command) before after) → IfErr ended (λ _. after ≡ before) →
         DumpsCommand command old new before after asked told (turn_after ended)
     move_turn hears parts was is refusals now (Ok _) obeys sees same = tells_moved hears was is obeys.0 sees
     move_turn hears parts was is refusals now (Err (Refused refusal)) obeys sees same =
@@ -209,12 +209,12 @@ module _ (old new : HeldSession) (command : Command) (before after : Sheet) (ask
 
     pub move_rests : {H : Type 0} (hears : H → Told → H) (parts : H → Told → H → Type 0) (was is : H) (refusals now : ℕ)
         (ended : Result (Unit {0}) ApplyFault) → Obeys hears parts old command new was is asked told refusals now ended →
-        OnOk ended (Sees begin see_state rest (PassesThrough old.core command) before after) → IfErr ended (λ _. after ≡ before) →
-        OnOk ended (KnowsBehind Shows after old.core command new.core) → Rests before old.core.state → OnOk (turn_after ended) (Rests after new.core.state)
+        OnOk ended (Sees begin see_state rest (PassesThrough old command) before after) → IfErr ended (λ _. after ≡ before) →
+        OnOk ended (KnowsBehind Shows after old command new) → Rests before old.state → OnOk (turn_after ended) (Rests after new.state)
     move_rests hears parts was is refusals now (Ok _) obeys sees same some rests = record {
       closed = ap (λ (sheet : Sheet). sheet.is_open) sees.seen ∙ passes-closed before sees.passes rests.closed;
-      inside = inside_more (length (known_behind old.core command new.core)) (length new.core.state) after.page.entries
-          (known_few old.core new.core command some.moves) some.known.inside;
+      inside = inside_more (length (known_behind old command new)) (length new.state) after.page.entries
+          (known_few old new command some.moves) some.known.inside;
     }
     move_rests hears parts was is refusals now (Err (Refused refusal)) obeys sees same some rests = kept_rests (kept_sheet was is obeys.0.keeps same) rests
     move_rests hears parts was is refusals now (Err (GroupNodes node count)) obeys sees same some rests =
@@ -228,10 +228,10 @@ module _ (old new : HeldSession) (command : Command) (before after : Sheet) (ask
   pub turn_stopped : (ended : Turn) (stop : Stop) → DumpsCommand command old new before after asked told (Ok ended) →
       DumpsCommand command old new before after asked told (Err stop)
   turn_stopped turn.Accepted stop tells =
-      let adds = told-adds old.core.state new.core.state before after (scenes_of old.core command tells.through tells.wrote new.core) tells.tells in
+      let adds = told-adds old.state new.state before after (scenes_of old command tells.through tells.wrote new) tells.tells in
       inr (record {
         timely = tells.timely;
-        new = new.core;
+        new = new;
         through = tells.through;
         wrote = tells.wrote;
         texts = tells.texts;
@@ -259,7 +259,7 @@ none_left : {X : Type 0} (front rest : List X) (next : X) → [] ≡ front ++ ne
 none_left [] rest next is = cc
 none_left (one ∷ front) rest next is = cc
 
-module _ (old mid : HeldSession) (names : List (List ℕ)) (before told_before after : Sheet) (asked told : List GroupTextData)
+module _ (old mid : SessionData) (names : List (List ℕ)) (before told_before after : Sheet) (asked told : List GroupTextData)
     (early : has_begun before ≡ false) where
   abbrev watching : Command
   watching = family.Setup (setup.Watch names)
@@ -289,17 +289,17 @@ module _ (old mid : HeldSession) (names : List (List ℕ)) (before told_before a
 
   pub watch_kept : (refusals now : ℕ) (ended : Result (Unit {0}) ApplyFault) (result : Result Turn Stop) →
       Obeys hear HearsPart old watching mid before told_before asked told refusals now ended → turn_after ended ≡ result → result ≢ Ok turn.Accepted →
-      Rests before old.core.state → OnOk result (Rests told_before mid.core.state)
+      Rests before old.state → OnOk result (Rests told_before mid.state)
   watch_kept refusals now (Ok _) result obeys is other rests = absurd (other (sym is))
   watch_kept refusals now (Err (Refused refusal)) result obeys is other rests =
-      subst (λ (one : Result Turn Stop). OnOk one (Rests told_before mid.core.state)) is
+      subst (λ (one : Result Turn Stop). OnOk one (Rests told_before mid.state)) is
       (kept_rests old mid watching before told_before asked told obeys.0.keeps rests)
   watch_kept refusals now (Err (GroupNodes node count)) result obeys is other rests = absurd (true≢false (sym obeys.0.building))
   watch_kept refusals now (Err (GroupSwitches node count)) result obeys is other rests = absurd (true≢false (sym obeys.0.building))
   watch_kept refusals now (Err WriteFault) result obeys is other rests =
-      subst (λ (one : Result Turn Stop). OnOk one (Rests told_before mid.core.state)) is tt
+      subst (λ (one : Result Turn Stop). OnOk one (Rests told_before mid.state)) is tt
   watch_kept refusals now (Err NoMemory) result obeys is other rests =
-      subst (λ (one : Result Turn Stop). OnOk one (Rests told_before mid.core.state)) is tt
+      subst (λ (one : Result Turn Stop). OnOk one (Rests told_before mid.state)) is tt
 
   -- where it is: it told nothing, and left all that its words are read by
   watch_accepts : (refusals now : ℕ) (ended : Result (Unit {0}) ApplyFault) →
@@ -316,40 +316,40 @@ module _ (old mid : HeldSession) (names : List (List ℕ)) (before told_before a
     watch_quiet : told_before ≡ before
     watch_quiet = accepts.heard ∙ ap (λ (lines : List Line). hear_all hear before (of_column 0 lines)) accepts.performs.does.effect.1
 
-    watch_core : mid.core ≡ record old.core { watched = mid.core.watched }
+    watch_core : mid ≡ record old { watched = mid.watched }
     watch_core =
-        let same : mid.core ≡ record accepts.performs.mid { watched = mid.core.watched } =
+        let same : mid ≡ record accepts.performs.mid { watched = mid.watched } =
         accepts.performs.does.effect.0 ∙ ap (λ (watched : List ℕ). record accepts.performs.mid { watched = watched })
         (sym (ap (λ (s : SessionData). s.watched) accepts.performs.does.effect.0)) in
-        same ∙ ap (λ (s : SessionData). record s { watched = mid.core.watched }) accepts.performs.prepares.0
+        same ∙ ap (λ (s : SessionData). record s { watched = mid.watched }) accepts.performs.prepares.0
 
     -- its words are watched
-    watch_words : (sheet : Sheet) → watched_in mid.core names sheet ≡ watched_in old.core names sheet
+    watch_words : (sheet : Sheet) → watched_in mid names sheet ≡ watched_in old names sheet
     watch_words sheet = ap (λ (s : SessionData). watched_in s names sheet) watch_core
 
-    watch_told : after ≡ watched_in mid.core names told_before → after ≡ watched_in old.core names before
-    watch_told watched = watched ∙ (watch_words told_before ∙ ap (watched_in old.core names) watch_quiet)
+    watch_told : after ≡ watched_in mid names told_before → after ≡ watched_in old names before
+    watch_told watched = watched ∙ (watch_words told_before ∙ ap (watched_in old names) watch_quiet)
 
     abbrev watch_scenes : List Scene
-    watch_scenes = scenes_of old.core watching [] accepts.lines mid.core
+    watch_scenes = scenes_of old watching [] accepts.lines mid
 
-    tells_words : tell_all (told_in old.core.state before) watch_scenes ≡ told_in mid.core.state (watched_in old.core names before)
+    tells_words : tell_all (told_in old.state before) watch_scenes ≡ told_in mid.state (watched_in old names before)
     tells_words =
-        let words = told_in old.core.state (watched_in old.core names before) in
-        parts_told (told_in old.core.state before) words words words (map Watched (map (entry_of old.core.circuit old.core.vectors) names)) []
-        (comments accepts.lines) mid.core.state (tell_watched old.core names before) refl
+        let words = told_in old.state (watched_in old names before) in
+        parts_told (told_in old.state before) words words words (map Watched (map (entry_of old.circuit old.vectors) names)) []
+        (comments accepts.lines) mid.state (tell_watched old names before) refl
         (ap (λ (lines : List Line). tell_all words (comments lines)) accepts.performs.does.effect.1)
 
-    tells_watched : after ≡ watched_in mid.core names told_before → TellsCommand watching old mid before after asked told
+    tells_watched : after ≡ watched_in mid names told_before → TellsCommand watching old mid before after asked told
     tells_watched watched = record {
       timely = timely_early (has_begun before) watching early;
-      begun = ap has_begun (watch_told watched ∙ watched_sheet old.core names before) ∙ or_false (has_begun before) false refl;
+      begun = ap has_begun (watch_told watched ∙ watched_sheet old names before) ∙ or_false (has_begun before) false refl;
       through = [];
       wrote = accepts.lines;
       texts = accepts.texts;
       performs = accepts.performs;
       passes = refl;
-      tells = tells_words ∙ ap (told_in mid.core.state) (sym (watch_told watched));
+      tells = tells_words ∙ ap (told_in mid.state) (sym (watch_told watched));
       analysed = accepts.analysed;
     }
 
@@ -357,7 +357,7 @@ module _ (old mid : HeldSession) (names : List (List ℕ)) (before told_before a
     tells_unwatched : after.due ≡ told_before.due → after.before ≡ told_before.before → TellsPart watching old before after
     tells_unwatched due sink = record {
       timely = timely_early (has_begun before) watching early;
-      new = mid.core;
+      new = mid;
       through = [];
       wrote = accepts.lines;
       texts = accepts.texts;
@@ -366,45 +366,45 @@ module _ (old mid : HeldSession) (names : List (List ℕ)) (before told_before a
       sink = sink ∙ ap (λ (sheet : Sheet). sheet.before) watch_quiet;
       left = [];
       due = ap (λ (t : Telling). t.sheet.due) tells_words
-          ∙ (ap (λ (sheet : Sheet). sheet.due) (watched_sheet old.core names before)
+          ∙ (ap (λ (sheet : Sheet). sheet.due) (watched_sheet old names before)
           ∙ (sym (due ∙ ap (λ (sheet : Sheet). sheet.due) watch_quiet) ∙ sym (append-nil after.due)));
     }
 
-    watched_rests : IsSession old.core → Rests before old.core.state → after ≡ watched_in mid.core names told_before → Rests after mid.core.state
+    watched_rests : IsSession old → Rests before old.state → after ≡ watched_in mid names told_before → Rests after mid.state
     watched_rests session rests watched =
-        subst (λ (sheet : Sheet). Rests sheet mid.core.state) (sym (watch_told watched ∙ watched_sheet old.core names before))
+        subst (λ (sheet : Sheet). Rests sheet mid.state) (sym (watch_told watched ∙ watched_sheet old names before))
         (subst (λ (state : List Tern). Rests (record before {
-          page = record before.page { entries = before.page.entries ++ map (entry_of old.core.circuit old.core.vectors) names };
+          page = record before.page { entries = before.page.entries ++ map (entry_of old.circuit old.vectors) names };
         }) state) (sym (ap (λ (s : SessionData). s.state) watch_core))
         (record {
           closed = rests.closed;
-          inside = All-append (IsInside (length old.core.state)) before.page.entries (map (entry_of old.core.circuit old.core.vectors) names) rests.inside
-              (words_inside old.core session names);
+          inside = All-append (IsInside (length old.state)) before.page.entries (map (entry_of old.circuit old.vectors) names) rests.inside
+              (words_inside old session names);
         }))
 
   -- the same by what the call of the command answered
   module _ (refusals now : ℕ) (ended : Result (Unit {0}) ApplyFault)
       (obeys : Obeys hear HearsPart old watching mid before told_before asked told refusals now ended) (is : turn_after ended ≡ Ok turn.Accepted) where
-    pub watch_turn : after ≡ watched_in mid.core names told_before → DumpsCommand watching old mid before after asked told (Ok turn.Accepted)
+    pub watch_turn : after ≡ watched_in mid names told_before → DumpsCommand watching old mid before after asked told (Ok turn.Accepted)
     watch_turn watched = tells_watched (watch_accepts refusals now ended obeys is) watched
 
     pub watch_cut : (stop : Stop) → after.due ≡ told_before.due → after.before ≡ told_before.before →
         DumpsCommand watching old mid before after asked told (Err stop)
     watch_cut stop due sink = inr (tells_unwatched (watch_accepts refusals now ended obeys is) due sink)
 
-    pub watch_rests : IsSession old.core → Rests before old.core.state → after ≡ watched_in mid.core names told_before → Rests after mid.core.state
+    pub watch_rests : IsSession old → Rests before old.state → after ≡ watched_in mid names told_before → Rests after mid.state
     watch_rests session rests watched = watched_rests (watch_accepts refusals now ended obeys is) session rests watched
 
 -- ---- a line
 
 -- one that asks for a command comes to what the command comes to
-pub asked_turn : (cut : Option ℕ) (line : ℕ × List ℕ) (command : Command) (old new : HeldSession) (before after : Sheet) (asked told : List GroupTextData)
-    (result : Result Turn Stop) → Asks plain_reading cut old.core line command → DumpsCommand command old new before after asked told result →
+pub asked_turn : (cut : Option ℕ) (line : ℕ × List ℕ) (command : Command) (old new : SessionData) (before after : Sheet) (asked told : List GroupTextData)
+    (result : Result Turn Stop) → Asks plain_reading cut old line command → DumpsCommand command old new before after asked told result →
     DumpsTurn cut line old new before after asked told result
 asked_turn cut line command old new before after asked told (Ok turn.Accepted) asks tells = inr (command, asks, tells)
 asked_turn cut line command old new before after asked told (Ok (turn.Refused code)) asks refuses = (by refuses.0, refuses.1)
   where
-    by : RefusesUnder (has_begun before) old.core command code → IsDumpRefused cut (has_begun before) old.core line (plain_cause code)
+    by : RefusesUnder (has_begun before) old command code → IsDumpRefused cut (has_begun before) old line (plain_cause code)
     by (inl (timely, (refusal, is, under))) =
         as_ever (refused command refusal asks is (ap plain_cause under))
         (λ other again. subst (IsTimely (has_begun before)) (same_command asks again) timely)

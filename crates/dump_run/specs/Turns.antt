@@ -11,7 +11,7 @@ use Rattle.wave_dump.specs.Scenes.{Watched}
 use Rattle.wave_dump.specs.Writing.{Sheet, Telling, finished, tell_all}
 use Rattle.port_edge.specs.declared.ports.PortFault.{PortFault}
 use Rattle.run_ends.specs.Stops.{write_stop_of}
-use Rattle.session_meaning.specs.Sessions.{SessionData, HeldSession}
+use Rattle.session_meaning.specs.Sessions.{SessionData}
 use Rattle.session_meaning.specs.Outcomes.{Keeps, Performs, RefusesSize}
 use Rattle.session_meaning.specs.Refusals.{refusal_of}
 use Rattle.session_meaning.specs.declared.fault.Refusal.{Refusal}
@@ -47,29 +47,29 @@ abbrev pub told_in : List Tern → Sheet → Telling
 told_in state sheet = record { state = state; sheet = sheet }
 
 -- a command was obeyed in time, and what it tells was told
-pub record TellsCommand (command : Command) (old new : HeldSession) (before after : Sheet) (asked told : List GroupTextData) : Type 0 where
+pub record TellsCommand (command : Command) (old new : SessionData) (before after : Sheet) (asked told : List GroupTextData) : Type 0 where
   pub timely : IsTimely (has_begun before) command
   pub begun : has_begun after ≡ (has_begun before || is_move command)
   pub through : List Pass
   pub wrote : List Line
   pub texts : List GroupTextData
-  pub performs : Performs old.core command new.core wrote texts
-  pub passes : PassesThrough old.core command through
-  pub tells : tell_all (told_in old.core.state before) (scenes_of old.core command through wrote new.core) ≡ told_in new.core.state after
+  pub performs : Performs old command new wrote texts
+  pub passes : PassesThrough old command through
+  pub tells : tell_all (told_in old.state before) (scenes_of old command through wrote new) ≡ told_in new.state after
   pub analysed : told ≡ asked ++ texts
 
 -- a command had begun in time, and of the text that is due for it a prefix was told to the same sink
-pub record TellsPart (command : Command) (old : HeldSession) (before after : Sheet) : Type 0 where
+pub record TellsPart (command : Command) (old : SessionData) (before after : Sheet) : Type 0 where
   pub timely : IsTimely (has_begun before) command
   pub new : SessionData
   pub through : List Pass
   pub wrote : List Line
   pub texts : List GroupTextData
-  pub performs : Performs old.core command new wrote texts
-  pub passes : PassesThrough old.core command through
+  pub performs : Performs old command new wrote texts
+  pub passes : PassesThrough old command through
   pub sink : after.before ≡ before.before
   pub left : List ℕ
-  pub due : (tell_all (told_in old.core.state before) (scenes_of old.core command through wrote new)).sheet.due ≡ after.due ++ left
+  pub due : (tell_all (told_in old.state before) (scenes_of old command through wrote new)).sheet.due ≡ after.due ++ left
 
 -- the command has this refusal in time, or comes too late, under this code
 abbrev pub RefusesUnder : Bool → SessionData → Command → FaultCode → Type 0
@@ -78,24 +78,24 @@ RefusesUnder begun session command code =
     ⊎ (((begun && is_watch command) ≡ true) × (code ≡ S17LateWatch))
 
 -- what a command comes to
-abbrev pub DumpsCommand : Command → HeldSession → HeldSession → Sheet → Sheet → List GroupTextData → List GroupTextData → Result Turn Stop → Type 0
+abbrev pub DumpsCommand : Command → SessionData → SessionData → Sheet → Sheet → List GroupTextData → List GroupTextData → Result Turn Stop → Type 0
 DumpsCommand command old new before after asked told (Ok Accepted) = TellsCommand command old new before after asked told
 DumpsCommand command old new before after asked told (Ok (Refused code)) =
-    RefusesUnder (has_begun before) old.core command code × Keeps old new before after asked told
+    RefusesUnder (has_begun before) old command code × Keeps old new before after asked told
 DumpsCommand command old new before after asked told (Ok (TooLarge fault)) = RefusesSize old command new before after asked told fault
 DumpsCommand command old new before after asked told (Err stop) = (after ≡ before) ⊎ TellsPart command old before after
 
 -- what one line comes to: it asks for nothing, or for a command that comes to this, or is refused
-abbrev pub DumpsTurn : Option ℕ → (ℕ × List ℕ) → HeldSession → HeldSession → Sheet → Sheet → List GroupTextData → List GroupTextData →
+abbrev pub DumpsTurn : Option ℕ → (ℕ × List ℕ) → SessionData → SessionData → Sheet → Sheet → List GroupTextData → List GroupTextData →
     Result Turn Stop → Type 0
 DumpsTurn cut line old new before after asked told (Ok Accepted) =
     Passes plain_reading cut line old new before after asked told
-    ⊎ ((command : Command) × Asks plain_reading cut old.core line command × TellsCommand command old new before after asked told)
+    ⊎ ((command : Command) × Asks plain_reading cut old line command × TellsCommand command old new before after asked told)
 DumpsTurn cut line old new before after asked told (Ok (Refused code)) =
-    IsDumpRefused cut (has_begun before) old.core line (plain_cause code) × Keeps old new before after asked told
+    IsDumpRefused cut (has_begun before) old line (plain_cause code) × Keeps old new before after asked told
 DumpsTurn cut line old new before after asked told (Ok (TooLarge fault)) = Outgrows plain_reading cut line old new before after asked told fault
 DumpsTurn cut line old new before after asked told (Err stop) =
-    (after ≡ before) ⊎ ((command : Command) × Asks plain_reading cut old.core line command × TellsPart command old before after)
+    (after ≡ before) ⊎ ((command : Command) × Asks plain_reading cut old line command × TellsPart command old before after)
 
 -- the lines of a script were obeyed, to these data and to this refused line, if one ended them: what they tell was told
 pub record HasDumped (cut : Option ℕ) (start : SessionData) (lines : List (ℕ × List ℕ)) (new : SessionData) (before after : Sheet)

@@ -8,13 +8,13 @@ ghost use Rattle.script_lang.specs.declared.command.Command.TheVariants as famil
 ghost use Rattle.script_lang.specs.declared.command.Setup.TheVariants as setup;
 ghost use Rattle.wave_dump.specs.Writing as writing;
 ghost use Rattle.wave_dump.specs.Writing.{first_sheet};
-ghost use Rattle.session_meaning.specs.Machines.{IsHeldSession};
-ghost use Rattle.session_meaning.specs.Sessions.{IsReady};
+ghost use Rattle.session_meaning.specs.Sessions.{IsHeldSession, IsReady};
 ghost use Rattle.run_ends.specs.Ends.{IsToldBy};
 ghost use Rattle.run_ends.specs.Stops.{IsRefusedOnce, faults_written};
 ghost use Rattle.dump_run.specs.Dumped.{IsDumpFrom, IsDumped, entry_of, is_move, is_watch};
 ghost use Rattle.dump_run.specs.Turns.{ClosesDump, DumpsAll, DumpsCommand, DumpsRun, DumpsTurn, EndsDump, Rests, watched_in};
 
+use column_stage::PlainStage;
 use cosmos_session::Session;
 use group_analysis::Analyst;
 use line_words::{Line, cut_line, front, lines};
@@ -35,7 +35,7 @@ use wave_print::{FaultCode, LineBuf};
 /// the sink.
 ///
 /// The dump is written as the run goes. A fault of the sink ends the run, behind the command at which it came at the latest.
-pub fn dump_script<S: Sink + Drop, A: Analyst>(
+pub fn dump_script<M: PlainStage, S: Sink + Drop, A: Analyst>(
     alloc: Global,
     circuit: Circuit,
     text: &[u8],
@@ -50,7 +50,7 @@ pub fn dump_script<S: Sink + Drop, A: Analyst>(
     ensures refused { IsRefusedOnce (S.refusals out) (S.refusals result.0) result.1 }
 {
     let raw = LineBuf::new(alloc, 0);
-    let session = Session::new(alloc, circuit);
+    let session = Session::<M>::new(alloc, circuit);
     match (raw, session) {
         (Ok(raw), Ok(session)) => dump_in(
             alloc,
@@ -64,9 +64,9 @@ pub fn dump_script<S: Sink + Drop, A: Analyst>(
 }
 
 // Runs the lines of a script in a session that is at its start, with a writer to which nothing was told yet.
-fn dump_in<S: Sink + Drop, A: Analyst>(
+fn dump_in<M: PlainStage, S: Sink + Drop, A: Analyst>(
     alloc: Global,
-    session: Session,
+    session: Session<M>,
     text: &[u8],
     out: Dump<S>,
     analyst: &mut A,
@@ -88,7 +88,11 @@ fn dump_in<S: Sink + Drop, A: Analyst>(
 }
 
 // Ends the dump in the session's state, after a run that ended so.
-fn finish<S: Sink + Drop>(session: &Session, end: End, out: Dump<S>) -> (S, Result<End, Stop>)
+fn finish<M: PlainStage, S: Sink + Drop>(
+    session: &Session<M>,
+    end: End,
+    out: Dump<S>,
+) -> (S, Result<End, Stop>)
     requires { Rests out.sheet session.now.core.state }
     ensures { EndsDump session.now.core.state out.sheet end
         (record { written = S.written result.0; faults = S.faults result.0; refusals = S.refusals result.0 }) result.1 }
@@ -113,9 +117,9 @@ fn close<S: Sink + Drop>(out: Dump<S>) -> (S, Result<End, Stop>)
 }
 
 // Runs the lines of a script, and tells the refusal that ended them, if one did.
-fn run_lines<S: Sink + Drop, A: Analyst>(
+fn run_lines<M: PlainStage, S: Sink + Drop, A: Analyst>(
     alloc: Global,
-    session: &mut Session,
+    session: &mut Session<M>,
     text: &[u8],
     out: &mut Dump<S>,
     analyst: &mut A,
@@ -138,9 +142,9 @@ fn run_lines<S: Sink + Drop, A: Analyst>(
 }
 
 // Obeys the lines of a script, and dumps what they tell.
-fn obey_dumped<S: Sink + Drop, A: Analyst>(
+fn obey_dumped<M: PlainStage, S: Sink + Drop, A: Analyst>(
     alloc: Global,
-    session: &mut Session,
+    session: &mut Session<M>,
     text: &[u8],
     out: &mut Dump<S>,
     analyst: &mut A,
@@ -163,16 +167,16 @@ fn obey_dumped<S: Sink + Drop, A: Analyst>(
 }
 
 // Obeys one line, and dumps what it tells.
-fn dump_line<S: Sink + Drop, A: Analyst>(
+fn dump_line<M: PlainStage, S: Sink + Drop, A: Analyst>(
     alloc: Global,
-    session: &mut Session,
+    session: &mut Session<M>,
     cut: Option<u64>,
     line: Line<'_>,
     out: &mut Dump<S>,
     analyst: &mut A,
 ) -> Result<Turn, Stop>
     requires { Rests out.old.sheet session.old.core.state }
-    ensures turn { DumpsTurn cut (line.entry.number, line.entry.bytes.now) session.old session.new
+    ensures turn { DumpsTurn cut (line.entry.number, line.entry.bytes.now) session.old.core session.new.core
         out.old.sheet out.new.sheet (A.analysed analyst.old) (A.analysed analyst.new) result }
     ensures rests { OnOk result (Rests out.new.sheet session.new.core.state) }
 {
@@ -191,16 +195,16 @@ fn dump_line<S: Sink + Drop, A: Analyst>(
 
 // Obeys a command, and dumps what it tells.
 #[tactic(auto, using(crate::proofs::CommandLemmas::still_by, crate::proofs::CommandLemmas::moving_run, crate::proofs::CommandLemmas::wordless_by, crate::proofs::CommandLemmas::wordless_setup))]
-fn dump_command<S: Sink + Drop, A: Analyst>(
-    session: &mut Session,
+fn dump_command<M: PlainStage, S: Sink + Drop, A: Analyst>(
+    session: &mut Session<M>,
     command: &Command,
     out: &mut Dump<S>,
     analyst: &mut A,
 ) -> Result<Turn, Stop>
     requires formed { IsFormed command.now }
-    requires session { IsHeldSession session.old }
+    requires session { IsHeldSession M.lanes M.states M.serves session.old }
     requires rests { Rests out.old.sheet session.old.core.state }
-    ensures turn { DumpsCommand command.now session.old session.new
+    ensures turn { DumpsCommand command.now session.old.core session.new.core
         out.old.sheet out.new.sheet (A.analysed analyst.old) (A.analysed analyst.new) result }
     ensures rests { OnOk result (Rests out.new.sheet session.new.core.state) }
 {
@@ -218,8 +222,8 @@ fn dump_command<S: Sink + Drop, A: Analyst>(
 }
 
 // Obeys a command that takes no step and watches nothing, and dumps its lines.
-fn tell_lines<S: Sink + Drop, A: Analyst>(
-    session: &mut Session,
+fn tell_lines<M: PlainStage, S: Sink + Drop, A: Analyst>(
+    session: &mut Session<M>,
     command: &Command,
     out: &mut Dump<S>,
     analyst: &mut A,
@@ -228,7 +232,7 @@ fn tell_lines<S: Sink + Drop, A: Analyst>(
     requires still { is_move command.now ≡ false }
     requires other { is_watch command.now ≡ false }
     requires rests { Rests out.old.sheet session.old.core.state }
-    ensures turn { DumpsCommand command.now session.old session.new
+    ensures turn { DumpsCommand command.now session.old.core session.new.core
         out.old.sheet out.new.sheet (A.analysed analyst.old) (A.analysed analyst.new) result }
     ensures rests { OnOk result (Rests out.new.sheet session.new.core.state) }
 {
@@ -236,17 +240,17 @@ fn tell_lines<S: Sink + Drop, A: Analyst>(
 }
 
 // Obeys a `step`, `phase` or `cycle`, at which the dump looks on.
-fn move_on<S: Sink + Drop, A: Analyst>(
-    session: &mut Session,
+fn move_on<M: PlainStage, S: Sink + Drop, A: Analyst>(
+    session: &mut Session<M>,
     command: &Command,
     out: &mut Dump<S>,
     analyst: &mut A,
 ) -> Result<Turn, Stop>
     requires formed { IsFormed command.now }
     requires moves { is_move command.now ≡ true }
-    requires session { IsHeldSession session.old }
+    requires session { IsHeldSession M.lanes M.states M.serves session.old }
     requires rests { Rests out.old.sheet session.old.core.state }
-    ensures turn { DumpsCommand command.now session.old session.new
+    ensures turn { DumpsCommand command.now session.old.core session.new.core
         out.old.sheet out.new.sheet (A.analysed analyst.old) (A.analysed analyst.new) result }
     ensures rests { OnOk result (Rests out.new.sheet session.new.core.state) }
 {
@@ -259,8 +263,8 @@ fn move_on<S: Sink + Drop, A: Analyst>(
 }
 
 // Obeys a `watch`, whose words are told at the dump's head: behind it there are no more.
-fn watch<S: Sink + Drop, A: Analyst>(
-    session: &mut Session,
+fn watch<M: PlainStage, S: Sink + Drop, A: Analyst>(
+    session: &mut Session<M>,
     command: &Command,
     names: &NameList,
     out: &mut Dump<S>,
@@ -268,9 +272,9 @@ fn watch<S: Sink + Drop, A: Analyst>(
 ) -> Result<Turn, Stop>
     requires formed { IsFormed command.now }
     requires is { command.now ≡ family.Setup (setup.Watch names.now) }
-    requires session { IsHeldSession session.old }
+    requires session { IsHeldSession M.lanes M.states M.serves session.old }
     requires rests { Rests out.old.sheet session.old.core.state }
-    ensures turn { DumpsCommand command.now session.old session.new
+    ensures turn { DumpsCommand command.now session.old.core session.new.core
         out.old.sheet out.new.sheet (A.analysed analyst.old) (A.analysed analyst.new) result }
     ensures rests { OnOk result (Rests out.new.sheet session.new.core.state) }
 {
@@ -287,8 +291,8 @@ fn watch<S: Sink + Drop, A: Analyst>(
 }
 
 // Has the dump watch these words, which stand for nodes.
-fn watch_all<S: Sink + Drop>(
-    session: &Session,
+fn watch_all<M: PlainStage, S: Sink + Drop>(
+    session: &Session<M>,
     names: &[Name],
     out: &mut Dump<S>,
 ) -> Result<(), NoMemory>
@@ -304,8 +308,8 @@ fn watch_all<S: Sink + Drop>(
 }
 
 // Has the dump watch a word, which stands for nodes.
-fn watch_word<S: Sink + Drop>(
-    session: &Session,
+fn watch_word<M: PlainStage, S: Sink + Drop>(
+    session: &Session<M>,
     name: &[u8],
     out: &mut Dump<S>,
 ) -> Result<(), NoMemory>

@@ -1,10 +1,11 @@
 //! The bench on which the script is run under one fault after the other.
 
-ghost use Rattle.std.specs.Prelude.{◌≡◌, None, Some, IfOk};
+ghost use Rattle.std.specs.Prelude.{◌≡◌, Some, IfOk};
 ghost use Rattle.fault_runs.specs.Words.{start_with, HasTraced, HasVisibleNames, IsFault, JudgesBy};
 
 use crate::early::{calm_from, judge_under};
 use crate::good::GoodRun;
+use column_stage::PlainStage;
 use cosmos_session::Session;
 use fault_sim::{Fault, Verdict};
 use group_analysis::Analyst;
@@ -16,17 +17,17 @@ use ternary::NoMemory;
 /// A circuit at the start, a script, and the session of the last run, whose analyses are kept: each run goes
 /// on from it, and wants a copy of the circuit alone.
 #[derive(Drop)]
-pub(crate) struct FaultBench<'a> {
+pub(crate) struct FaultBench<'a, M: PlainStage> {
     alloc: Global,
     start: &'a Circuit,
     script: &'a [u8],
     // The line of the script from which on nothing more is analysed, and what is kept stays, if there is one.
     calm_from: Option<u64>,
     // None while it runs, and after memory ran out: then nothing is kept.
-    session: Option<Session>,
+    session: Option<Session<M>>,
 }
 
-impl<'a> Model for FaultBench<'a> {
+impl<'a, M: PlainStage> Model for FaultBench<'a, M> {
     ghost use Rattle.std.specs.Prelude.{IfSome};
     ghost use Rattle.netlist.specs.Circuits.{HasVisibleNames};
     ghost use Rattle.fault_meaning.specs.Early.{IsCalmFrom};
@@ -39,14 +40,14 @@ impl<'a> Model for FaultBench<'a> {
     ghost invariant = { λ bench. HasVisibleNames bench.start.now × IfSome bench.calm_from (IsCalmFrom bench.script.now) };
 }
 
-impl<'a> FaultBench<'a> {
+impl<'a, M: PlainStage> FaultBench<'a, M> {
     /// A bench whose runs go on from this session.
     pub(crate) fn new(
         alloc: Global,
         start: &'a Circuit,
         script: &'a [u8],
-        session: Session,
-    ) -> Result<FaultBench<'a>, NoMemory>
+        session: Session<M>,
+    ) -> Result<FaultBench<'a, M>, NoMemory>
         requires { HasVisibleNames start.now }
         ensures { IfOk result (λ bench. bench ≡ record { start = start.now; script = script.now; kept = session.core.kept }) }
     {
@@ -61,9 +62,8 @@ impl<'a> FaultBench<'a> {
     }
 
     // A session at the start in a copy of the circuit, with what the last one keeps.
-    fn session_at_start(&mut self) -> Result<Session, NoMemory>
-        ensures ok { IfOk result (λ session. session
-            ≡ record { core = start_with self.old.start self.old.kept; machine = None }) }
+    fn session_at_start(&mut self) -> Result<Session<M>, NoMemory>
+        ensures ok { IfOk result (λ session. session.core ≡ start_with self.old.start self.old.kept) }
         ensures start { self.new.start ≡ self.old.start }
         ensures script { self.new.script ≡ self.old.script }
     {

@@ -7,6 +7,7 @@ ghost use Rattle.fault_meaning.specs.Early as spec;
 use crate::good::{GoodRun, is_ready};
 use crate::reader::Masked;
 use crate::running::put_fault;
+use column_stage::PlainStage;
 use cosmos_session::Session;
 use fault_meaning::Bearing;
 use fault_sim::{Fault, Verdict, stuck_node};
@@ -82,9 +83,9 @@ fn command_bearing(command: &Command) -> Bearing
 ///
 /// If no line of the script edits the circuit or is `keep` or `wide` from one on that builds, the run ends at its first
 /// strong difference after that: nothing that follows can change the verdict, what was analysed, or what is kept.
-pub(crate) fn judge_under<A: Analyst>(
+pub(crate) fn judge_under<M: PlainStage, A: Analyst>(
     alloc: Global,
-    session: &mut Session,
+    session: &mut Session<M>,
     start: &Circuit,
     script: &[u8],
     calm_from: Option<u64>,
@@ -92,7 +93,7 @@ pub(crate) fn judge_under<A: Analyst>(
     good: &GoodRun,
     analyst: &mut A,
 ) -> Result<Verdict, NoMemory>
-    requires stands { StandsAtStart start.now session.old }
+    requires stands { StandsAtStart start.now session.old.core }
     requires visible { HasVisibleNames start.now }
     requires fault { IsFault start.now fault }
     requires calm { IfSome calm_from (spec.IsCalmFrom script.now) }
@@ -111,9 +112,9 @@ pub(crate) fn judge_under<A: Analyst>(
 //
 // From the line with the number on, the run ends at the first strong difference: the verdict is that on the
 // whole run then, and nothing after it would be analysed or kept.
-fn judge_lines<A: Analyst>(
+fn judge_lines<M: PlainStage, A: Analyst>(
     alloc: Global,
-    session: &mut Session,
+    session: &mut Session<M>,
     script: &[u8],
     calm_from: Option<u64>,
     reader: Masked,

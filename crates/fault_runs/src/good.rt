@@ -4,6 +4,7 @@ ghost use Rattle.std.specs.Prelude.{◌≡◌, None, map, IfOk};
 ghost use Rattle.fault_runs.specs.Words.{called, named_entry, states_of, IsReady};
 ghost use Rattle.fault_meaning.specs.Runnings as spec;
 
+use column_stage::PlainStage;
 use cosmos_session::Session;
 use group_analysis::Analyst;
 use script_lang::{Name, NameList};
@@ -34,7 +35,12 @@ impl Model for GoodRun {
 
 impl GoodRun {
     // What a run comes to that ended so in a session, and of which this was noted.
-    fn new(alloc: Global, session: &Session, halt: Halt, notes: Notes) -> Result<GoodRun, NoMemory>
+    fn new<M: PlainStage>(
+        alloc: Global,
+        session: &Session<M>,
+        halt: Halt,
+        notes: Notes,
+    ) -> Result<GoodRun, NoMemory>
         ensures { IfOk result (spec.TellsTrace session.now.core halt notes.rows) }
     {
         let names = watched_names(alloc, session)?;
@@ -64,13 +70,13 @@ impl GoodRun {
 }
 
 /// Runs a script in a session that stands at the start, and answers what that comes to and how it ended.
-pub(crate) fn run_good<A: Analyst>(
+pub(crate) fn run_good<M: PlainStage, A: Analyst>(
     alloc: Global,
-    session: &mut Session,
+    session: &mut Session<M>,
     script: &[u8],
     analyst: &mut A,
 ) -> Result<(GoodRun, Halt), NoMemory>
-    requires { spec.StandsAtStart session.old.core.circuit session.old }
+    requires { spec.StandsAtStart session.old.core.circuit session.old.core }
     ensures { IfOk result (λ ran. spec.RunsTo session.old.core.circuit script.now session.old.core.kept None session.new.core
         (A.analysed analyst.old) (A.analysed analyst.new) ran.0 ran.1) }
 {
@@ -84,7 +90,7 @@ pub(crate) fn run_good<A: Analyst>(
 }
 
 /// Each session's data are ready: a call of this is for its contract alone.
-pub(crate) fn is_ready(session: &Session)
+pub(crate) fn is_ready<M: PlainStage>(session: &Session<M>)
     ensures { IsReady session.now.core }
 {
     let _circuit = session.circuit();
@@ -92,7 +98,7 @@ pub(crate) fn is_ready(session: &Session)
 }
 
 // The first names of the watched nodes.
-fn watched_names(alloc: Global, session: &Session) -> Result<NameList, NoMemory>
+fn watched_names<M: PlainStage>(alloc: Global, session: &Session<M>) -> Result<NameList, NoMemory>
     ensures { IfOk result (λ names. names ≡ map (called session.now.core.circuit) session.now.core.watched) }
 {
     let circuit = session.circuit();

@@ -1,12 +1,13 @@
 //! Judging the faults of a list.
 
-ghost use Rattle.std.specs.Prelude.{◌≡◌, ◌≢◌, None, All, IfOk, IfErr, OnOk, OnErr};
+ghost use Rattle.std.specs.Prelude.{◌≡◌, ◌≢◌, All, IfOk, IfErr, OnOk, OnErr};
 ghost use Rattle.std.specs.Io.KnownBytes.{append_known};
 ghost use Rattle.fault_runs.specs.Words.{faults_line_of, faults_written, start_of, verdict_line, AreJudgedFaults, HasVisibleNames, IsCircuit, IsFault, IsJudgement, IsRefusedOnce, IsToldBy, TellsJudged, WritesPart};
 
 use crate::bench::FaultBench;
 use crate::good::{GoodRun, run_good};
 use crate::list::{FaultList, read_list};
+use column_stage::PlainStage;
 use cosmos_session::Session;
 use fault_meaning::VerdictCounts;
 use fault_sim::Verdict;
@@ -30,7 +31,7 @@ use wave_print::{
 ///
 /// The first refused line of the list ends it before any run, and a line of the script that is refused in the
 /// good run before any verdict: its line is then the whole text.
-pub fn judge_faults<S: Sink + Drop, A: Analyst>(
+pub fn judge_faults<M: PlainStage, S: Sink + Drop, A: Analyst>(
     alloc: Global,
     circuit: Circuit,
     script: &[u8],
@@ -46,7 +47,7 @@ pub fn judge_faults<S: Sink + Drop, A: Analyst>(
     ensures refused { IsRefusedOnce out.old.refusals out.new.refusals result }
 {
     match read_list(alloc, &circuit, list)? {
-        Ok(faults) => judge_listed(alloc, circuit, script, &faults, out, analyst),
+        Ok(faults) => judge_listed::<M, _, _>(alloc, circuit, script, &faults, out, analyst),
         Err(refusal) => {
             let place = FaultPlace::List(refusal.line);
             let word = list_word(refusal.code, list, refusal.line);
@@ -56,7 +57,7 @@ pub fn judge_faults<S: Sink + Drop, A: Analyst>(
 }
 
 // Runs the script without a fault, and judges the faults beside that; or writes the line at which it is refused.
-fn judge_listed<S: Sink + Drop, A: Analyst>(
+fn judge_listed<M: PlainStage, S: Sink + Drop, A: Analyst>(
     alloc: Global,
     circuit: Circuit,
     script: &[u8],
@@ -72,23 +73,23 @@ fn judge_listed<S: Sink + Drop, A: Analyst>(
     ensures write { out.new.faults ≡ faults_written out.old.faults result }
     ensures refused { IsRefusedOnce out.old.refusals out.new.refusals result }
 {
-    let session = first_session(alloc, &circuit)?;
+    let session = first_session::<M>(alloc, &circuit)?;
     judge_from(alloc, &circuit, script, session, faults, out, analyst)
 }
 
 // A session at the start in a copy of a circuit.
-fn first_session(alloc: Global, circuit: &Circuit) -> Result<Session, NoMemory>
-    ensures { IfOk result (λ session. session ≡ record { core = start_of circuit.now; machine = None }) }
+fn first_session<M: PlainStage>(alloc: Global, circuit: &Circuit) -> Result<Session<M>, NoMemory>
+    ensures { IfOk result (λ session. session.core ≡ start_of circuit.now) }
 {
-    Session::new(alloc, circuit.copy(alloc)?)
+    Session::<M>::new(alloc, circuit.copy(alloc)?)
 }
 
 // The same, where the good run goes on in a session at the start in the circuit.
-fn judge_from<S: Sink + Drop, A: Analyst>(
+fn judge_from<M: PlainStage, S: Sink + Drop, A: Analyst>(
     alloc: Global,
     circuit: &Circuit,
     script: &[u8],
-    session: Session,
+    session: Session<M>,
     faults: &FaultList,
     out: &mut Printer<S>,
     analyst: &mut A,
@@ -115,11 +116,11 @@ fn judge_from<S: Sink + Drop, A: Analyst>(
 }
 
 // Judges the faults beside the good run, by runs that go on from its session.
-fn judge_beside<S: Sink, A: Analyst>(
+fn judge_beside<M: PlainStage, S: Sink, A: Analyst>(
     alloc: Global,
     circuit: &Circuit,
     script: &[u8],
-    session: Session,
+    session: Session<M>,
     good: &GoodRun,
     faults: &FaultList,
     out: &mut S,
@@ -140,9 +141,9 @@ fn judge_beside<S: Sink, A: Analyst>(
 }
 
 // Judges the faults one after the other, and writes the line of each verdict, and last that of the counts.
-fn judge_each<S: Sink, A: Analyst>(
+fn judge_each<M: PlainStage, S: Sink, A: Analyst>(
     alloc: Global,
-    bench: &mut FaultBench<'_>,
+    bench: &mut FaultBench<'_, M>,
     good: &GoodRun,
     faults: &FaultList,
     out: &mut S,

@@ -4,6 +4,7 @@ ghost use Rattle.std.specs.Prelude.{◌≡◌, [], None, Some, All, OnOk};
 ghost use Rattle.fault_runs.specs.Words.{commands_in, commands_under, refusal_of, AreDone, Does, HasVisibleNames, IsFault, IsFormed};
 ghost use Rattle.fault_meaning.specs.Runnings as spec;
 
+use column_stage::PlainStage;
 use cosmos_session::{ApplyFault, Session};
 use fault_sim::{Fault, fault_commands};
 use group_analysis::Analyst;
@@ -14,14 +15,14 @@ use ternary::NoMemory;
 use told_lines::Silence;
 
 /// Puts a fault into the circuit of a session, by its commands.
-pub(crate) fn put_fault<A: Analyst>(
+pub(crate) fn put_fault<M: PlainStage, A: Analyst>(
     alloc: Global,
-    session: &mut Session,
+    session: &mut Session<M>,
     start: &Circuit,
     fault: Fault,
     analyst: &mut A,
 ) -> Result<(), NoMemory>
-    requires stands { spec.StandsAtStart start.now session.old }
+    requires stands { spec.StandsAtStart start.now session.old.core }
     requires visible { HasVisibleNames start.now }
     requires fault { IsFault start.now fault }
     ensures done { OnOk result (AreDone session.old.core (commands_under start.now (Some fault)) session.new.core) }
@@ -34,8 +35,8 @@ pub(crate) fn put_fault<A: Analyst>(
 }
 
 // Does the commands of a fault.
-fn do_commands<A: Analyst>(
-    session: &mut Session,
+fn do_commands<M: PlainStage, A: Analyst>(
+    session: &mut Session<M>,
     commands: (Command, Option<Command>),
     analyst: &mut A,
 ) -> Result<(), NoMemory>
@@ -55,8 +56,8 @@ fn do_commands<A: Analyst>(
 }
 
 // Does a command that is not refused, and builds and tells nothing: memory alone can be lacking.
-fn do_command<A: Analyst>(
-    session: &mut Session,
+fn do_command<M: PlainStage, A: Analyst>(
+    session: &mut Session<M>,
     command: &Command,
     analyst: &mut A,
 ) -> Result<(), NoMemory>

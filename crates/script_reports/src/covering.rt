@@ -4,6 +4,7 @@ ghost use Rattle.std.specs.Prelude.{◌≡◌, ◌≢◌, length, IfErr};
 ghost use Rattle.script_reports.specs.Words.{faults_written, IsCircuit, IsCovered, IsHaltCovered, TellsNotes, IsRefusedOnce, IsTold, IsToldBy, TellsSize};
 
 use crate::unwritten::{refuse_at, run_unwritten};
+use column_stage::PlainStage;
 use cosmos_session::Session;
 use group_analysis::Analyst;
 use netlist::Circuit;
@@ -16,7 +17,7 @@ use told_lines::Printer;
 
 /// Runs the lines of a script from the start in a circuit, none of which is written, and tells of each node that is
 /// there at their end which of 0 and 1 it never had; or writes the line of the refusal that ended them.
-pub fn cover_script<S: Sink + Drop, A: Analyst>(
+pub fn cover_script<M: PlainStage, S: Sink + Drop, A: Analyst>(
     alloc: Global,
     circuit: Circuit,
     text: &[u8],
@@ -30,7 +31,7 @@ pub fn cover_script<S: Sink + Drop, A: Analyst>(
     ensures write { out.new.faults ≡ faults_written out.old.faults result }
     ensures refused { IsRefusedOnce out.old.refusals out.new.refusals result }
 {
-    let mut session = Session::new(alloc, circuit)?;
+    let mut session = Session::<M>::new(alloc, circuit)?;
     let mut cover = Cover::new(alloc);
     cover.note_all(session.state())?;
     let halt = run_unwritten(alloc, &mut session, text, analyst, &mut cover)?;
@@ -38,9 +39,9 @@ pub fn cover_script<S: Sink + Drop, A: Analyst>(
 }
 
 // Tells the cover where the lines of a script ended, or writes the line of the refusal that ended them.
-fn cover_at<S: Sink + Drop>(
+fn cover_at<M: PlainStage, S: Sink + Drop>(
     alloc: Global,
-    session: &Session,
+    session: &Session<M>,
     halt: Halt,
     text: &[u8],
     cover: &Cover,
@@ -60,9 +61,9 @@ fn cover_at<S: Sink + Drop>(
 }
 
 // Writes the cover of the session's circuit.
-fn tell_cover<S: Sink>(
+fn tell_cover<M: PlainStage, S: Sink>(
     alloc: Global,
-    session: &Session,
+    session: &Session<M>,
     cover: &Cover,
     out: &mut S,
 ) -> Result<End, Stop>

@@ -6,6 +6,7 @@ ghost use Rattle.run_ends.specs.declared.status.Status.TheVariants as status;
 
 use crate::unwritten::{refuse_at, run_unwritten};
 use channel_groups::Groups;
+use column_stage::PlainStage;
 use cosmos_session::Session;
 use group_analysis::Analyst;
 use netlist::Circuit;
@@ -21,7 +22,7 @@ use why_path::{group_reason, reason_line};
 
 /// Runs the lines of a script from the start in a circuit, none of which is written, and explains the node
 /// of this name in the circuit and the state at their end; or writes the line of the refusal that ended them.
-pub fn explain<S: Sink + Drop, A: Analyst>(
+pub fn explain<M: PlainStage, S: Sink + Drop, A: Analyst>(
     alloc: Global,
     circuit: Circuit,
     text: &[u8],
@@ -36,16 +37,16 @@ pub fn explain<S: Sink + Drop, A: Analyst>(
     ensures write { out.new.faults ≡ faults_written out.old.faults result }
     ensures refused { IsRefusedOnce out.old.refusals out.new.refusals result }
 {
-    let mut session = Session::new(alloc, circuit)?;
+    let mut session = Session::<M>::new(alloc, circuit)?;
     let halt = run_unwritten(alloc, &mut session, text, analyst, &mut Blind {})?;
     explain_at(alloc, &session, halt, text, name, out)
 }
 
 // Explains the node of this name where the lines of a script ended, or writes the line of the refusal that
 // ended them.
-fn explain_at<S: Sink + Drop>(
+fn explain_at<M: PlainStage, S: Sink + Drop>(
     alloc: Global,
-    session: &Session,
+    session: &Session<M>,
     halt: Halt,
     text: &[u8],
     name: &str,
@@ -65,9 +66,9 @@ fn explain_at<S: Sink + Drop>(
 }
 
 // Explains the node of this name; one that isn't in use is refused.
-fn explain_name<S: Sink>(
+fn explain_name<M: PlainStage, S: Sink>(
     alloc: Global,
-    session: &Session,
+    session: &Session<M>,
     name: &str,
     out: &mut S,
 ) -> Result<End, Stop>
@@ -87,9 +88,9 @@ fn explain_name<S: Sink>(
 }
 
 // Writes the two lines that explain a node.
-fn write_reasons<S: Sink>(
+fn write_reasons<M: PlainStage, S: Sink>(
     alloc: Global,
-    session: &Session,
+    session: &Session<M>,
     node: usize,
     out: &mut S,
 ) -> Result<End, Stop>
@@ -108,9 +109,13 @@ fn write_reasons<S: Sink>(
     }
 }
 
-/// The two lines that explain a node, by the groups that the session's machine has; if there is no machine,
-/// they are found.
-pub fn reasons_text(alloc: Global, session: &Session, node: usize) -> Result<Vec<u8>, NoMemory>
+/// The two lines that explain a node, by the groups that the session's stage has at hand; if it has none, they are
+/// found.
+pub fn reasons_text<M: PlainStage>(
+    alloc: Global,
+    session: &Session<M>,
+    node: usize,
+) -> Result<Vec<u8>, NoMemory>
     requires { node < nodes session.now.core.circuit.graph }
     ensures { IfOk result (λ text. ExplainsNode session.now.core.circuit session.now.core.state node text.items) }
 {
@@ -123,15 +128,16 @@ pub fn reasons_text(alloc: Global, session: &Session, node: usize) -> Result<Vec
     }
 }
 
-// The groups of the present circuit, if the session has a machine.
-fn kept_groups(session: &Session) -> Option<&Groups>
+// The groups of the present circuit, if the session's stage has them at hand.
+fn kept_groups<M: PlainStage>(session: &Session<M>) -> Option<&Groups>
     ensures { IfSome result (λ groups. AreGroupsOf session.now.core.circuit.graph groups.now) }
 {
-    session.machine()?.grouping()
+    let graph = session.circuit().graph();
+    session.stage().grouping(graph)
 }
 
 // The groups of the present circuit.
-fn groups_at(alloc: Global, session: &Session) -> Result<Groups, NoMemory>
+fn groups_at<M: PlainStage>(alloc: Global, session: &Session<M>) -> Result<Groups, NoMemory>
     ensures { IfOk result (λ groups. AreGroupsOf session.now.core.circuit.graph groups) }
 {
     let graph = session.circuit().graph();
@@ -139,9 +145,9 @@ fn groups_at(alloc: Global, session: &Session) -> Result<Groups, NoMemory>
 }
 
 // The two lines that explain a node: first why it may be 1, then why it may be 0.
-fn reasons_among(
+fn reasons_among<M: PlainStage>(
     alloc: Global,
-    session: &Session,
+    session: &Session<M>,
     groups: &Groups,
     node: usize,
 ) -> Result<Vec<u8>, NoMemory>
@@ -156,9 +162,9 @@ fn reasons_among(
 }
 
 // The line that explains a rail of a node.
-fn rail_line(
+fn rail_line<M: PlainStage>(
     alloc: Global,
-    session: &Session,
+    session: &Session<M>,
     groups: &Groups,
     node: usize,
     one: bool,

@@ -8,6 +8,7 @@ ghost use Rattle.command_line.specs.Samples as samples;
 ghost use Rattle.run_ends.specs.declared.status.Status.TheVariants as status;
 
 use circuit_reports::{refuse_net, switches};
+use column_stage::PlainStage;
 use command_line::Sample;
 use cosmos_session::Session;
 use group_analysis::Analyst;
@@ -25,7 +26,7 @@ use told_lines::Sums;
 use wave_print::{FaultPlace, LineBuf, SUMMARY_LINE_ROOM, Summary, summary_line};
 
 /// Runs the script of a sample in the circuit of its netlist, and writes the line that sums it up.
-pub fn sum_up<S: Sink, A: Analyst>(
+pub fn sum_up<M: PlainStage, S: Sink, A: Analyst>(
     alloc: Global,
     keys: TableKeys,
     sample: Sample,
@@ -39,7 +40,7 @@ pub fn sum_up<S: Sink, A: Analyst>(
     ensures refused { IsRefusedOnce (S.refusals out.old) (S.refusals out.new) result }
 {
     match sample_circuit(alloc, keys, sample)? {
-        Ok(circuit) => sum_up_in(alloc, circuit, sample, out, analyst),
+        Ok(circuit) => sum_up_in::<M, _, _>(alloc, circuit, sample, out, analyst),
         Err(refusal) => refuse_net(alloc, refusal, &[], out),
     }
 }
@@ -63,7 +64,7 @@ fn sample_circuit(
 }
 
 // Runs the script of a sample in this circuit, and writes the line that sums it up.
-fn sum_up_in<S: Sink, A: Analyst>(
+fn sum_up_in<M: PlainStage, S: Sink, A: Analyst>(
     alloc: Global,
     circuit: Circuit,
     sample: Sample,
@@ -85,7 +86,7 @@ fn sum_up_in<S: Sink, A: Analyst>(
         sample.rows,
     )?;
     let summary = summary_at_start(&circuit);
-    let mut session = Session::new(alloc, circuit)?;
+    let mut session = Session::<M>::new(alloc, circuit)?;
     sum_up_lines(alloc, &mut session, &text, summary, out, analyst)
 }
 
@@ -107,9 +108,9 @@ fn summary_at_start(circuit: &Circuit) -> Summary
 }
 
 // Runs the lines of a script, and writes the line that sums them up, or that of the refusal that ends them.
-fn sum_up_lines<S: Sink, A: Analyst>(
+fn sum_up_lines<M: PlainStage, S: Sink, A: Analyst>(
     alloc: Global,
-    session: &mut Session,
+    session: &mut Session<M>,
     text: &[u8],
     summary: Summary,
     out: &mut S,
@@ -147,9 +148,9 @@ fn sum_up_lines<S: Sink, A: Analyst>(
 
 // Obeys the lines of a script, whose waveform lines are counted as they are told.
 #[tactic(auto, using(crate::proofs::UnfailingLemmas::memory_alone))]
-fn count_lines<A: Analyst>(
+fn count_lines<M: PlainStage, A: Analyst>(
     alloc: Global,
-    session: &mut Session,
+    session: &mut Session<M>,
     text: &[u8],
     sums: &mut Sums,
     analyst: &mut A,

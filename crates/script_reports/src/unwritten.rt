@@ -4,6 +4,7 @@ ghost use Rattle.std.specs.Prelude.{◌≡◌, ◌≢◌, Ok, IfErr, IfOk};
 ghost use Rattle.script_reports.specs.Words.{faults_written, hear_nothing, plain_reading, HaltsAt, IsHaltRefused, IsReady, IsRefusedOnce, IsTold, SeesAll, TellsSize};
 ghost use Rattle.line_words.specs.Files as file;
 
+use column_stage::PlainStage;
 use cosmos_session::Session;
 use group_analysis::Analyst;
 use oscillation_x::Onlooker;
@@ -16,9 +17,9 @@ use told_lines::{Printer, Silence};
 
 /// Obeys the lines of a script, which nobody hears, under the eyes of an onlooker, who knows the session's state.
 #[tactic(auto, using(crate::proofs::UnfailingLemmas::memory_alone))]
-pub(crate) fn run_unwritten<A: Analyst, O: Onlooker>(
+pub(crate) fn run_unwritten<M: PlainStage, A: Analyst, O: Onlooker>(
     alloc: Global,
-    session: &mut Session,
+    session: &mut Session<M>,
     text: &[u8],
     analyst: &mut A,
     onlooker: &mut O,
@@ -38,9 +39,9 @@ pub(crate) fn run_unwritten<A: Analyst, O: Onlooker>(
 }
 
 /// Writes the line of the refusal that ended the lines of a script.
-pub(crate) fn refuse_at<S: Sink + Drop>(
+pub(crate) fn refuse_at<M: PlainStage, S: Sink + Drop>(
     alloc: Global,
-    session: &Session,
+    session: &Session<M>,
     halt: Halt,
     text: &[u8],
     out: &mut Printer<S>,

@@ -8,6 +8,7 @@ use crate::codes::{refusal_code, script_code};
 use crate::reader::{LineReader, Plain};
 use crate::refusal::refuse_halt;
 use circuit_texts::BuildFault;
+use column_stage::PlainStage;
 use cosmos_session::{ApplyFault, Session};
 use group_analysis::Analyst;
 use line_words::{Line, cut_line, front, lines};
@@ -21,9 +22,9 @@ use wave_print::FaultCode;
 
 /// Runs the lines of a script, in order, to the end or to the first that is refused, and tells the line
 /// of its refusal.
-pub fn run_lines<L: Lines, A: Analyst>(
+pub fn run_lines<M: PlainStage, L: Lines, A: Analyst>(
     alloc: Global,
-    session: &mut Session,
+    session: &mut Session<M>,
     text: &[u8],
     out: &mut L,
     analyst: &mut A,
@@ -48,9 +49,9 @@ pub fn run_lines<L: Lines, A: Analyst>(
 
 /// Obeys the lines of a script, in order, to the end or to the first that is refused, and answers which one
 /// that is. Each is read by the reader, in the circuit as it is then.
-pub fn obey_lines<R: LineReader, L: Lines, A: Analyst>(
+pub fn obey_lines<M: PlainStage, R: LineReader, L: Lines, A: Analyst>(
     alloc: Global,
-    session: &mut Session,
+    session: &mut Session<M>,
     text: &[u8],
     reader: &R,
     out: &mut L,
@@ -70,9 +71,9 @@ pub fn obey_lines<R: LineReader, L: Lines, A: Analyst>(
 /// Obeys the lines of a script as `obey_lines` does, under the eyes of an onlooker, who knows the session's state.
 ///
 /// If all lines are obeyed the onlooker was shown the steps and phases of each of them, and the state behind it.
-pub fn obey_seen<R: LineReader, L: Lines, A: Analyst, O: Onlooker>(
+pub fn obey_seen<M: PlainStage, R: LineReader, L: Lines, A: Analyst, O: Onlooker>(
     alloc: Global,
-    session: &mut Session,
+    session: &mut Session<M>,
     text: &[u8],
     reader: &R,
     out: &mut L,
@@ -103,7 +104,7 @@ pub fn obey_seen<R: LineReader, L: Lines, A: Analyst, O: Onlooker>(
 }
 
 /// How a script ends that was obeyed to its end.
-pub fn end_of(session: &Session) -> End
+pub fn end_of<M: PlainStage>(session: &Session<M>) -> End
     ensures { status_of result ≡ status_told session.now.core None }
 {
     if session.met() {
@@ -114,9 +115,9 @@ pub fn end_of(session: &Session) -> End
 }
 
 /// Runs one line, as the reader reads it; the one that holds the first byte too many of the script is refused.
-pub fn run_line<R: LineReader, L: Lines, A: Analyst>(
+pub fn run_line<M: PlainStage, R: LineReader, L: Lines, A: Analyst>(
     alloc: Global,
-    session: &mut Session,
+    session: &mut Session<M>,
     cut: Option<u64>,
     line: Line<'_>,
     reader: &R,
@@ -124,7 +125,7 @@ pub fn run_line<R: LineReader, L: Lines, A: Analyst>(
     analyst: &mut A,
 ) -> Result<Turn, Stop>
     ensures turn { TakesTurn L.hear L.part (R.reading reader.now)
-        cut (line.entry.number, line.entry.bytes.now) session.old session.new
+        cut (line.entry.number, line.entry.bytes.now) session.old.core session.new.core
         (L.heard out.old) (L.heard out.new) (A.analysed analyst.old) (A.analysed analyst.new) result }
     ensures no_read { IfErr result (λ stop. stop ≢ Stop.Read) }
     ensures write { L.faults out.new ≡ faults_written (L.faults out.old) result }
@@ -143,9 +144,9 @@ pub fn run_line<R: LineReader, L: Lines, A: Analyst>(
 }
 
 // Runs one line, and shows its steps and phases to an onlooker, who knows the session's state, and the state behind it.
-fn run_seen<R: LineReader, L: Lines, A: Analyst, O: Onlooker>(
+fn run_seen<M: PlainStage, R: LineReader, L: Lines, A: Analyst, O: Onlooker>(
     alloc: Global,
-    session: &mut Session,
+    session: &mut Session<M>,
     cut: Option<u64>,
     line: Line<'_>,
     reader: &R,
@@ -155,7 +156,7 @@ fn run_seen<R: LineReader, L: Lines, A: Analyst, O: Onlooker>(
 ) -> Result<Turn, Stop>
     requires { O.knows onlooker.old session.old.core.state }
     ensures turn { TakesTurn L.hear L.part (R.reading reader.now)
-        cut (line.entry.number, line.entry.bytes.now) session.old session.new
+        cut (line.entry.number, line.entry.bytes.now) session.old.core session.new.core
         (L.heard out.old) (L.heard out.new) (A.analysed analyst.old) (A.analysed analyst.new) result }
     ensures no_read { IfErr result (λ stop. stop ≢ Stop.Read) }
     ensures write { L.faults out.new ≡ faults_written (L.faults out.old) result }
@@ -181,8 +182,8 @@ fn run_seen<R: LineReader, L: Lines, A: Analyst, O: Onlooker>(
 }
 
 // Obeys a line's command, and shows its steps and phases and the state behind it to an onlooker, who knows the session's state.
-fn obey_command<L: Lines, A: Analyst, O: Onlooker>(
-    session: &mut Session,
+fn obey_command<M: PlainStage, L: Lines, A: Analyst, O: Onlooker>(
+    session: &mut Session<M>,
     command: &Command,
     out: &mut L,
     analyst: &mut A,
@@ -191,7 +192,7 @@ fn obey_command<L: Lines, A: Analyst, O: Onlooker>(
     requires formed { IsFormed command.now }
     requires knows { O.knows onlooker.old session.old.core.state }
     ensures turn { (reading : Reading) (cut : Option ℕ) (line : ℕ × List ℕ) → Asks reading cut session.old.core line command.now →
-        TakesTurn L.hear L.part reading cut line session.old session.new
+        TakesTurn L.hear L.part reading cut line session.old.core session.new.core
         (L.heard out.old) (L.heard out.new) (A.analysed analyst.old) (A.analysed analyst.new) result }
     ensures no_read { IfErr result (λ stop. stop ≢ Stop.Read) }
     ensures write { L.faults out.new ≡ faults_written (L.faults out.old) result }

@@ -10,7 +10,7 @@ use Rattle.told_lines.specs.Lines.{Line, text_of}
 use Rattle.told_lines.specs.Hearing.{of_column}
 use Rattle.wave_print.specs.declared.faults.FaultPlace.TheVariants.{Heard}
 use Rattle.wave_print.specs.declared.faults.FaultCode.{FaultCode}
-use Rattle.session_meaning.specs.Sessions.{HeldSession}
+use Rattle.session_meaning.specs.Sessions.{SessionData}
 use Rattle.session_meaning.specs.Outcomes.{Keeps}
 use Rattle.run_ends.specs.declared.stop.Stop.{Stop}
 use Rattle.run_ends.specs.Causes.{Cause, plain_cause, size_cause, cause_line}
@@ -26,31 +26,31 @@ use Rattle.talk_run.proofs.SpokenLemmas.{said-nil, said-lines, said-part, unhear
 text-alone : (lines : List Line) → text_of (lines ++ []) ++ [] ≡ text_of lines
 text-alone lines = append-nil (text_of (lines ++ [])) ∙ ap text_of (append-nil lines)
 
-module _ (number : ℕ) (line : List ℕ) (old new : HeldSession) (before mid : Spoken) (asked told : List GroupTextData) where
+module _ (number : ℕ) (line : List ℕ) (old new : SessionData) (before mid : Spoken) (asked told : List GroupTextData) where
   -- what one line came to
   abbrev pub Took : Result Turn Stop → Type 0
   Took result = TakesTurn speak SpeaksPart plain_reading None (number, line) old new before mid asked told result
 
   -- what an answer from here may be, with these data at its end and with any
   abbrev pub IsSaid : List ℕ → Type 0
-  IsSaid text = IsObeyed (mind_of old.core number asked) line text (mind_of new.core number told)
+  IsSaid text = IsObeyed (mind_of old number asked) line text (mind_of new number told)
 
   abbrev pub MayBeSaid : List ℕ → Type 0
-  MayBeSaid text = (end : TalkMind) × IsObeyed (mind_of old.core number asked) line text end
+  MayBeSaid text = (end : TalkMind) × IsObeyed (mind_of old number asked) line text end
 
   -- nothing changes
-  kept : Keeps old new before mid asked told → mind_of new.core number told ≡ mind_of old.core number (asked ++ [])
+  kept : Keeps old new before mid asked told → mind_of new number told ≡ mind_of old number (asked ++ [])
   kept keeps =
-      ap (λ (held : HeldSession). mind_of held.core number told) keeps.same
-      ∙ ap (mind_of old.core number) (keeps.unasked ∙ sym (append-nil asked))
+      ap (λ (held : SessionData). mind_of held number told) keeps.same
+      ∙ ap (mind_of old number) (keeps.unasked ∙ sym (append-nil asked))
 
   -- the line was accepted
   followed : Took (Ok Accepted) → Says IsSaid before.talk mid.talk
   followed (inl idle) = record {
     text = [];
     right = record {
-      outcome = at_end old.core;
-      runs = passes old.core (number, line) [] (at_end old.core) idle.idle (ends old.core);
+      outcome = at_end old;
+      runs = passes old (number, line) [] (at_end old) idle.idle (ends old);
       said = refl;
       becomes = kept idle.keeps;
     };
@@ -61,10 +61,10 @@ module _ (number : ℕ) (line : List ℕ) (old new : HeldSession) (before mid : 
       record {
         text = text_of (did.lines ++ []) ++ [];
         right = record {
-          outcome = after_command did.lines did.texts (at_end new.core);
-          runs = obeys old.core new.core (number, line) [] follows.command did.lines did.texts (at_end new.core) follows.asks did.performs (ends new.core);
+          outcome = after_command did.lines did.texts (at_end new);
+          runs = obeys old new (number, line) [] follows.command did.lines did.texts (at_end new) follows.asks did.performs (ends new);
           said = refl;
-          becomes = ap (mind_of new.core number) (did.analysed ∙ ap (λ (texts : List GroupTextData). asked ++ texts) (sym (append-nil did.texts)));
+          becomes = ap (mind_of new number) (did.analysed ∙ ap (λ (texts : List GroupTextData). asked ++ texts) (sym (append-nil did.texts)));
         };
         said = ap (λ (spoken : Spoken). spoken.talk) did.heard ∙ said-lines before did.lines
             ∙ ap (λ (text : List ℕ). option_map (said_next text) before.talk) (sym (text-alone did.lines));
@@ -75,13 +75,13 @@ module _ (number : ℕ) (line : List ℕ) (old new : HeldSession) (before mid : 
 
   -- it was refused for a cause, and the line of its refusal was said, or a part of that
   caused_said : {E : Type 0} (after : Option TalkData) (result : Result (Unit {0}) E) (cause : Cause) →
-      IsRefused plain_reading None old.core (number, line) cause → Keeps old new before mid asked told →
+      IsRefused plain_reading None old (number, line) cause → Keeps old new before mid asked told →
       Tries (cause_line (Heard number) cause) mid.talk after result → Speaks IsSaid MayBeSaid before.talk after result
   caused_said after (Ok _) cause is keeps tries = record {
     text = cause_line (Heard number) cause;
     right = record {
-      outcome = refused_at old.core number cause;
-      runs = refuses old.core (number, line) [] cause is;
+      outcome = refused_at old number cause;
+      runs = refuses old (number, line) [] cause is;
       said = refl;
       becomes = kept keeps;
     };
@@ -93,8 +93,8 @@ module _ (number : ℕ) (line : List ℕ) (old new : HeldSession) (before mid : 
     right = (
       _,
       record {
-        outcome = refused_at old.core number cause;
-        runs = refuses old.core (number, line) [] cause is;
+        outcome = refused_at old number cause;
+        runs = refuses old (number, line) [] cause is;
         said = refl;
         becomes = refl;
       },
@@ -109,15 +109,15 @@ module _ (number : ℕ) (line : List ℕ) (old new : HeldSession) (before mid : 
       caused_said after result (plain_cause code) refused.0 refused.1 tries
 
   -- since a group is too large: the first such one is told of the present circuit
-  module _ (turn : Turn) (size : BuildFault) (is : turn ≡ TooLarge size) (took : Took (Ok turn)) (circuit : CircuitData) (present : circuit ≡ new.core.circuit) where
+  module _ (turn : Turn) (size : BuildFault) (is : turn ≡ TooLarge size) (took : Took (Ok turn)) (circuit : CircuitData) (present : circuit ≡ new.circuit) where
     outgrown : Took (Ok (TooLarge size))
     outgrown = subst (λ (other : Turn). Took (Ok other)) is took
 
-    unchanged : circuit ≡ old.core.circuit
-    unchanged = present ∙ ap (λ (held : HeldSession). held.core.circuit) outgrown.refuses.keeps.same
+    unchanged : circuit ≡ old.circuit
+    unchanged = present ∙ ap (λ (held : SessionData). held.circuit) outgrown.refuses.keeps.same
 
     pub large_told : (large : ℕ) × TellsRefused large circuit.graph size
-    large_told = (old.core.large, subst (λ (one : CircuitData). TellsRefused old.core.large one.graph size) (sym unchanged) outgrown.refuses.first)
+    large_told = (old.large, subst (λ (one : CircuitData). TellsRefused old.large one.graph size) (sym unchanged) outgrown.refuses.first)
 
     pub large_said : {E : Type 0} (after : Option TalkData) (result : Result (Unit {0}) E) →
         (cause : Cause) × (size_cause circuit size ≡ Some cause) × Tries (cause_line (Heard number) cause) mid.talk after result →
@@ -140,7 +140,7 @@ module _ (number : ℕ) (line : List ℕ) (old new : HeldSession) (before mid : 
           _,
           record {
             outcome = after_command did.lines did.texts (at_end did.end);
-            runs = obeys old.core did.end (number, line) [] starts.command did.lines did.texts (at_end did.end) starts.asks did.performs (ends did.end);
+            runs = obeys old did.end (number, line) [] starts.command did.lines did.texts (at_end did.end) starts.asks did.performs (ends did.end);
             said = refl;
             becomes = refl;
           },

@@ -4,6 +4,7 @@ ghost use Rattle.talk_run.specs.Words.{mind_of, said_fault, faults_after, IsObey
 
 use crate::refusals::{refuse, refuse_named, word_of};
 use crate::teller::Teller;
+use column_stage::PlainStage;
 use cosmos_session::Session;
 use group_analysis::Analyst;
 use line_words::Line;
@@ -15,9 +16,9 @@ use std::alloc::Global;
 use talk_port::Talk;
 
 /// Obeys a line as a script's, and says what it writes, or the line of its refusal.
-pub(crate) fn obey<T: Talk + Drop, A: Analyst>(
+pub(crate) fn obey<M: PlainStage, T: Talk + Drop, A: Analyst>(
     alloc: Global,
-    session: &mut Session,
+    session: &mut Session<M>,
     line: Line<'_>,
     out: &mut Teller<T>,
     analyst: &mut A,

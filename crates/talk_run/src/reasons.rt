@@ -4,6 +4,7 @@ ghost use Rattle.talk_run.specs.Words.{mind_of, node_of, echo_line, faults_after
 
 use crate::refusals::refuse;
 use crate::teller::Teller;
+use column_stage::PlainStage;
 use cosmos_session::Session;
 use line_words::Words;
 use port_edge::PortFault;
@@ -13,9 +14,9 @@ use talk_port::Talk;
 use wave_print::FaultCode;
 
 /// Says the two lines that explain the node of a name, or the refusal of the line with this number if it isn't in use.
-pub(crate) fn explain<T: Talk + Drop>(
+pub(crate) fn explain<M: PlainStage, T: Talk + Drop>(
     alloc: Global,
-    session: &Session,
+    session: &Session<M>,
     number: u64,
     name: &[u8],
     out: &mut Teller<T>,

@@ -4,6 +4,7 @@ ghost use Rattle.talk_run.specs.Words.{faults_after, fault_line_of, Tries};
 ghost use Rattle.wave_print.specs.declared.faults.FaultPlace.TheVariants.{Heard};
 
 use crate::teller::Teller;
+use column_stage::PlainStage;
 use cosmos_session::Session;
 use port_edge::PortFault;
 use refusal_words::script_word;
@@ -80,7 +81,11 @@ fn tell_named<T: Talk + Drop>(
 
 /// The word that the refusal of a line is about: of a cycle with a clock on a storage node the name of that node, which
 /// an earlier line has.
-pub(crate) fn word_of<'a>(code: FaultCode, bytes: &'a [u8], session: &'a Session) -> &'a [u8] {
+pub(crate) fn word_of<'a, M: PlainStage>(
+    code: FaultCode,
+    bytes: &'a [u8],
+    session: &'a Session<M>,
+) -> &'a [u8] {
     let word = script_word(code, bytes, 1, session.circuit(), session.vectors(), 1);
     if word.is_empty() && code == FaultCode::S6NotInput {
         storage_clock(session)
@@ -90,7 +95,7 @@ pub(crate) fn word_of<'a>(code: FaultCode, bytes: &'a [u8], session: &'a Session
 }
 
 // The name of the first storage node with a clock, and no bytes if there is none.
-fn storage_clock(session: &Session) -> &[u8] {
+fn storage_clock<M: PlainStage>(session: &Session<M>) -> &[u8] {
     let circuit = session.circuit();
     for clock in session.clocks() {
         let node = clock.node;

@@ -7,6 +7,7 @@ use crate::obeying::obey;
 use crate::reasons::{echo, explain};
 use crate::refusals::{refuse, word_of};
 use crate::teller::Teller;
+use column_stage::PlainStage;
 use cosmos_session::Session;
 use group_analysis::Analyst;
 use line_words::{Line, without_return};
@@ -19,14 +20,14 @@ use talk_port::{Broken, Speaker, Talk, converse};
 
 /// A session that answers the lines of a talk, with its analyst and the number of lines that were heard.
 #[derive(Drop)]
-pub struct Obeying<A: Analyst + Drop> {
+pub struct Obeying<M: PlainStage, A: Analyst + Drop> {
     alloc: Global,
-    session: Session,
+    session: Session<M>,
     analyst: A,
     heard: u64,
 }
 
-impl<T: Talk + Drop, A: Analyst + Drop> Speaker<Teller<T>> for Obeying<A> {
+impl<T: Talk + Drop, M: PlainStage, A: Analyst + Drop> Speaker<Teller<T>> for Obeying<M, A> {
     ghost use Rattle.talk_run.specs.Answers.{TalkMind, mind_of, IsAnswer, BreaksAnswer};
     ghost use Rattle.talk_run.specs.Asking.{quits};
 
@@ -52,7 +53,7 @@ impl<T: Talk + Drop, A: Analyst + Drop> Speaker<Teller<T>> for Obeying<A> {
     }
 }
 
-impl<A: Analyst + Drop> Obeying<A> {
+impl<M: PlainStage, A: Analyst + Drop> Obeying<M, A> {
     // Answers the line that was heard last, by what it asks for.
     fn reply<T: Talk + Drop>(
         &mut self,
@@ -95,7 +96,7 @@ fn next_number(heard: u64) -> u64
 ///
 /// An expectation that isn't met shows in the end; a refused line doesn't. What stops a talk is a fault of the port, in
 /// hearing or in saying, or lack of memory: then each line that was heard is answered, or the last one in part.
-pub fn talk_in<T: Talk + Drop, A: Analyst + Drop>(
+pub fn talk_in<M: PlainStage, T: Talk + Drop, A: Analyst + Drop>(
     alloc: Global,
     circuit: Circuit,
     analyst: A,
@@ -106,7 +107,7 @@ pub fn talk_in<T: Talk + Drop, A: Analyst + Drop>(
     ensures hearing { port.new.spoken.unheard ≡ faults_read port.old.spoken.unheard result }
     ensures faults { port.new.faults ≡ faults_written port.old.faults result }
 {
-    let session = Session::new(alloc, circuit)?;
+    let session = Session::<M>::new(alloc, circuit)?;
     let mut speaker = Obeying {
         alloc,
         session,

@@ -11,7 +11,7 @@ returns-in-Ok-Some-clause-turn g c =
       inside = is_inside c.args.cut c.args.line.number c.eq.result c.eq.ensures c.if-eq.false;
       asked = c.in-Ok-Some.ensures.ok ∙ ap Ok c.in-Ok-Some.field-0-is;
     } in
-    asked_turn c.args.cut (c.args.line.number, c.args.line.bytes.now) c.in-Ok-Some.command c.args.session.now c.dump_command.new.session
+    asked_turn c.args.cut (c.args.line.number, c.args.line.bytes.now) c.in-Ok-Some.command c.args.session.now.core c.dump_command.new.session.core
     c.args.out.now.sheet c.dump_command.new.out.sheet _ _ c.dump_command.result asks c.dump_command.ensures.turn
 
 pub returns-in-Some-clause-turn : goal.returns-in-Some-clause-turn

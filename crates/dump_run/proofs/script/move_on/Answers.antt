@@ -16,11 +16,11 @@ apply_seen-requires-clause-knows g c = rests_known c.args.out.now.sheet c.args.s
 
 -- the command has ended
 moved : (g : Over) (c : After-turn_of g) →
-    DumpsCommand c.args.command.now c.args.session.now c.apply_seen.new.self c.args.out.now.sheet c.apply_seen.new.onlooker.sheet
+    DumpsCommand c.args.command.now c.args.session.now.core c.apply_seen.new.self.core c.args.out.now.sheet c.apply_seen.new.onlooker.sheet
     (g.A.Analyst.analysed c.args.analyst.now) (g.A.Analyst.analysed c.apply_seen.new.analyst) c.turn_of.result
 moved g c =
     rw c.turn_of.ensures.turn
-    (move_turn c.args.session.now c.apply_seen.new.self c.args.command.now c.args.out.now.sheet c.apply_seen.new.onlooker.sheet
+    (move_turn c.args.session.now.core c.apply_seen.new.self.core c.args.command.now c.args.out.now.sheet c.apply_seen.new.onlooker.sheet
     (g.A.Analyst.analysed c.args.analyst.now) (g.A.Analyst.analysed c.apply_seen.new.analyst) c.requires.moves c.requires.formed c.requires.session.core
     _ _ _ _ _ _ c.apply_seen.result c.apply_seen.ensures.obeys c.apply_seen.ensures.seen
     (unseen_same c.args.out.now c.apply_seen.new.onlooker c.apply_seen.result c.apply_seen.ensures.unseen))
@@ -29,7 +29,7 @@ moved g c =
 moved_rests : (g : Over) (c : After-turn_of g) → OnOk c.turn_of.result (Rests c.apply_seen.new.onlooker.sheet c.apply_seen.new.self.core.state)
 moved_rests g c =
     rw c.turn_of.ensures.turn
-    (move_rests c.args.session.now c.apply_seen.new.self c.args.command.now c.args.out.now.sheet c.apply_seen.new.onlooker.sheet
+    (move_rests c.args.session.now.core c.apply_seen.new.self.core c.args.command.now c.args.out.now.sheet c.apply_seen.new.onlooker.sheet
     (g.A.Analyst.analysed c.args.analyst.now) (g.A.Analyst.analysed c.apply_seen.new.analyst) c.requires.moves c.requires.formed c.requires.session.core
     _ _ _ _ _ _ c.apply_seen.result c.apply_seen.ensures.obeys c.apply_seen.ensures.seen
     (unseen_same c.args.out.now c.apply_seen.new.onlooker c.apply_seen.result c.apply_seen.ensures.unseen)
@@ -38,7 +38,7 @@ moved_rests g c =
 pub returns-in_err-turn-clause-turn : goal.returns-in_err-turn-clause-turn
 returns-in_err-turn-clause-turn g c =
     let p = err_from_is_err_and c.from_residual.result c.from_residual.ensures.1 in
-    rw p.1 (subst (λ (ended : Result Turn Stop). DumpsCommand c.args.command.now c.args.session.now c.apply_seen.new.self c.args.out.now.sheet
+    rw p.1 (subst (λ (ended : Result Turn Stop). DumpsCommand c.args.command.now c.args.session.now.core c.apply_seen.new.self.core c.args.out.now.sheet
     c.apply_seen.new.onlooker.sheet (g.A.Analyst.analysed c.args.analyst.now) (g.A.Analyst.analysed c.apply_seen.new.analyst) ended) c.in_err-turn.was
     (moved g (goal.at.returns-in_err-turn-clause-turn g c).After-turn_of))
 
@@ -49,17 +49,17 @@ answered old new same = ap (λ (dump : DumpData). dump.sheet) same
 pub returns-in-Err-clause-turn : goal.returns-in-Err-clause-turn
 returns-in-Err-clause-turn g c =
     rw (answered c.apply_seen.new.onlooker c.answer.new.self c.answer.ensures.same)
-    (turn_stopped c.args.session.now c.apply_seen.new.self c.args.command.now c.args.out.now.sheet c.apply_seen.new.onlooker.sheet _ _ c.in_ok-turn.turn
-    c.of_write.result (subst (λ (ended : Result Turn Stop). DumpsCommand c.args.command.now c.args.session.now c.apply_seen.new.self c.args.out.now.sheet
+    (turn_stopped c.args.session.now.core c.apply_seen.new.self.core c.args.command.now c.args.out.now.sheet c.apply_seen.new.onlooker.sheet _ _ c.in_ok-turn.turn
+    c.of_write.result (subst (λ (ended : Result Turn Stop). DumpsCommand c.args.command.now c.args.session.now.core c.apply_seen.new.self.core c.args.out.now.sheet
     c.apply_seen.new.onlooker.sheet (g.A.Analyst.analysed c.args.analyst.now) (g.A.Analyst.analysed c.apply_seen.new.analyst) ended) c.in_ok-turn.was
     (moved g (goal.at.returns-in-Err-clause-turn g c).After-turn_of)))
 
 pub returns-in-Ok-clause-turn : goal.returns-in-Ok-clause-turn
 returns-in-Ok-clause-turn g c =
-    subst (λ (sheet : Sheet). DumpsCommand c.args.command.now c.args.session.now c.apply_seen.new.self c.args.out.now.sheet sheet
+    subst (λ (sheet : Sheet). DumpsCommand c.args.command.now c.args.session.now.core c.apply_seen.new.self.core c.args.out.now.sheet sheet
     (g.A.Analyst.analysed c.args.analyst.now) (g.A.Analyst.analysed c.apply_seen.new.analyst) (Ok c.in_ok-turn.turn))
     (sym (answered c.apply_seen.new.onlooker c.answer.new.self c.answer.ensures.same))
-    (subst (λ (ended : Result Turn Stop). DumpsCommand c.args.command.now c.args.session.now c.apply_seen.new.self c.args.out.now.sheet
+    (subst (λ (ended : Result Turn Stop). DumpsCommand c.args.command.now c.args.session.now.core c.apply_seen.new.self.core c.args.out.now.sheet
     c.apply_seen.new.onlooker.sheet (g.A.Analyst.analysed c.args.analyst.now) (g.A.Analyst.analysed c.apply_seen.new.analyst) ended) c.in_ok-turn.was
     (moved g (goal.at.returns-in-Ok-clause-turn g c).After-turn_of))
 

@@ -17,24 +17,24 @@ returns-in_err-dump_line-clause-told g c =
     let come = comes_to c.loop-line.invariant.come c.in-Some.ensures.steps in
     let p = err_from_is_err_and c.from_residual.result c.from_residual.ensures.1 in
     rw p.1
-    (halts_stop c.loop-line.session come c.dump_line.new.session c.dump_line.new.out.sheet (g.A.Analyst.analysed c.dump_line.new.analyst)
+    (halts_stop c.loop-line.session.core come c.dump_line.new.session.core c.dump_line.new.out.sheet (g.A.Analyst.analysed c.dump_line.new.analyst)
     c.in_err-dump_line.field-0.0 c.in_err-dump_line.ensures.turn c.cut_line-cut.ensures)
 
 pub loop-line-preserved : goal.loop-line-preserved
 loop-line-preserved g c = record {
-  come = comes_on c.loop-line.session (comes_to c.loop-line.invariant.come c.in-Some.ensures.steps) c.dump_line.new.session c.dump_line.new.out.sheet
+  come = comes_on c.loop-line.session.core (comes_to c.loop-line.invariant.come c.in-Some.ensures.steps) c.dump_line.new.session.core c.dump_line.new.out.sheet
       (g.A.Analyst.analysed c.dump_line.new.analyst) c.in_ok-dump_line.ensures.turn c.in-Accepted.is;
   rests = c.in_ok-dump_line.ensures.rests;
 }
 
 pub returns-in-Refused-clause-told : goal.returns-in-Refused-clause-told
 returns-in-Refused-clause-told g c =
-    halts_refused c.loop-line.session (comes_to c.loop-line.invariant.come c.in-Some.ensures.steps) c.dump_line.new.session
+    halts_refused c.loop-line.session.core (comes_to c.loop-line.invariant.come c.in-Some.ensures.steps) c.dump_line.new.session.core
     c.dump_line.new.out.sheet (g.A.Analyst.analysed c.dump_line.new.analyst) c.in_ok-dump_line.ensures.turn c.in-Refused.is c.cut_line-cut.ensures
 
 pub returns-in-TooLarge-clause-told : goal.returns-in-TooLarge-clause-told
 returns-in-TooLarge-clause-told g c =
-    halts_large c.loop-line.session (comes_to c.loop-line.invariant.come c.in-Some.ensures.steps) c.dump_line.new.session
+    halts_large c.loop-line.session.core (comes_to c.loop-line.invariant.come c.in-Some.ensures.steps) c.dump_line.new.session.core
     c.dump_line.new.out.sheet (g.A.Analyst.analysed c.dump_line.new.analyst) c.in_ok-dump_line.ensures.turn c.in-TooLarge.is c.cut_line-cut.ensures
 
 pub returns-clause-told : goal.returns-clause-told

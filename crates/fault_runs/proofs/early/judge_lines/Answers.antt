@@ -26,8 +26,8 @@ returns-in-Some-found g c =
     let come = subst (λ (begun : CompareData). HasCome compared (masked_reading c.args.reader.stuck) c.cut_line-cut.result c.args.session.now.core
     (file.lines_in c.args.script.now) begun (g.A.Analyst.analysed c.args.analyst.now) c.loop-line.session.core c.loop-line.line-iterator c.loop-line.out
     (g.A.Analyst.analysed c.loop-line.analyst)) c.new-out.ensures c.loop-line.invariant.come in
-    ends_here c.args.reader.stuck c.args.script.now c.cut_line-cut.ensures c.args.good.now c.rows-good_rows.ensures (λ _ _ _. ⊥) c.loop-line.session
-    come c.in-Some.ensures.steps c.run_line.new.session c.run_line.new.out (g.A.Analyst.analysed c.run_line.new.analyst)
+    ends_here c.args.reader.stuck c.args.script.now c.cut_line-cut.ensures c.args.good.now c.rows-good_rows.ensures (λ _ _ _. ⊥) c.loop-line.session.core
+    come c.in-Some.ensures.steps c.run_line.new.session.core c.run_line.new.out (g.A.Analyst.analysed c.run_line.new.analyst)
     c.args.calm_from c.loop-line.invariant.placed c.is_from-calm.result c.in-Ok.turn c.in-Ok.ensures.turn c.verdict_after-found.result
     c.verdict_after-found.ensures c.in-Some-found.verdict c.in-Some-found.is c.is_from-calm.ensures
 
@@ -40,8 +40,8 @@ loop-line-preserved g c =
     let come = subst (λ (begun : CompareData). HasCome compared (masked_reading c.args.reader.stuck) c.cut_line-cut.result start all begun asked
     c.loop-line.session.core c.loop-line.line-iterator c.loop-line.out (g.A.Analyst.analysed c.loop-line.analyst)) c.new-out.ensures
     c.loop-line.invariant.come in
-    let past = goes_past c.args.reader.stuck c.args.script.now c.cut_line-cut.ensures c.args.good.now c.rows-good_rows.ensures (λ _ _ _. ⊥) c.loop-line.session
-    come c.in-Some.ensures.steps c.run_line.new.session c.run_line.new.out further c.args.calm_from c.loop-line.invariant.placed c.is_from-calm.result
+    let past = goes_past c.args.reader.stuck c.args.script.now c.cut_line-cut.ensures c.args.good.now c.rows-good_rows.ensures (λ _ _ _. ⊥) c.loop-line.session.core
+    come c.in-Some.ensures.steps c.run_line.new.session.core c.run_line.new.out further c.args.calm_from c.loop-line.invariant.placed c.is_from-calm.result
     c.in-Ok.turn c.in-Ok.ensures.turn c.verdict_after-found.result c.verdict_after-found.ensures c.in-None-found.is in
     record {
       come = subst (λ (begun : CompareData). HasCome compared (masked_reading c.args.reader.stuck) c.cut_line-cut.result start all begun asked

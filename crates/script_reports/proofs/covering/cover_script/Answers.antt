@@ -3,7 +3,7 @@ use Rattle.std.proofs.Common.{[], Ok, arith, refl, ap, subst, ◌∙◌}
 use Rattle.std.proofs.lemmas.Result.{err_from_is_err_and}
 use Rattle.line_words.specs.Files as file
 use Rattle.state_cover.specs.Cover.{had_after}
-use Rattle.session_meaning.specs.Sessions.{HeldSession, SessionData}
+use Rattle.session_meaning.specs.Sessions.{SessionData}
 use Rattle.script_meaning.specs.Runs.{plain_reading}
 use Rattle.script_meaning.specs.Halts.{HaltsAt}
 use Rattle.script_meaning.proofs.LowerLemmas.{ready-start}
@@ -16,7 +16,7 @@ pub note_all-requires : goal.note_all-requires
 note_all-requires g c = rw c.new-cover.ensures (omega arith)
 
 pub run_unwritten-requires-clause-ready : goal.run_unwritten-requires-clause-ready
-run_unwritten-requires-clause-ready g c = rw c.in_ok-session.ensures (ready-start c.args.circuit c.requires)
+run_unwritten-requires-clause-ready g c = rw c.in_ok-session.ensures.core (ready-start c.args.circuit c.requires)
 
 pub run_unwritten-requires-clause-knows : goal.run_unwritten-requires-clause-knows
 run_unwritten-requires-clause-knows g c = (rw c.state.ensures at c.in_ok-note_all.ensures.knows)
@@ -26,7 +26,7 @@ cover_at-requires-clause-size g c =
     halted_size c.args.text.now c.args.circuit c.run_unwritten.new.session.core _ _ c.in_ok-halt.halt
     (subst (λ (start : SessionData). HaltsAt hear_nothing plain_reading (file.cut_line c.args.text.now) start (file.lines_in c.args.text.now)
     c.run_unwritten.new.session.core tt tt (g.A.Analyst.analysed c.args.analyst.now) (g.A.Analyst.analysed c.run_unwritten.new.analyst) c.in_ok-halt.halt)
-    (ap (λ (session : HeldSession). session.core) c.in_ok-session.ensures) c.in_ok-halt.ensures.halts)
+    c.in_ok-session.ensures.core c.in_ok-halt.ensures.halts)
 
 pub cover_at-requires-clause-noted : goal.cover_at-requires-clause-noted
 cover_at-requires-clause-noted g c = λ ended. (c.in_ok-halt.ensures.knows (ap Ok ended)).count
@@ -37,7 +37,7 @@ returns-clause-told g c =
     let asked = g.A.Analyst.analysed c.args.analyst.now in
     let told = g.A.Analyst.analysed c.run_unwritten.new.analyst in
     let halt = c.in_ok-halt.halt in
-    let start = ap (λ (session : HeldSession). session.core) c.in_ok-session.ensures in
+    let start = c.in_ok-session.ensures.core in
     let first = (rw (c.new-cover.ensures, c.state.ensures) at c.in_ok-note_all.ensures.had) ∙ ap (λ (s : SessionData). had_after [] s.state) start in
     told_cover c.args.text.now c.args.circuit new c.args.out.now.page.written c.cover_at.new.out.page.written asked told c.note_all.new.self
     c.run_unwritten.new.onlooker halt c.cover_at.result first

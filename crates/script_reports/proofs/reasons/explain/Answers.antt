@@ -1,8 +1,8 @@
 -- What was told of where the lines ended is told of the answer.
-use Rattle.std.proofs.Common.{refl, ap, subst}
+use Rattle.std.proofs.Common.{refl, subst}
 use Rattle.std.proofs.lemmas.Result.{err_from_is_err_and}
 use Rattle.line_words.specs.Files as file
-use Rattle.session_meaning.specs.Sessions.{HeldSession, SessionData}
+use Rattle.session_meaning.specs.Sessions.{SessionData}
 use Rattle.script_meaning.specs.Runs.{plain_reading}
 use Rattle.script_meaning.specs.Halts.{HaltsAt}
 use Rattle.script_meaning.proofs.LowerLemmas.{ready-start}
@@ -12,7 +12,7 @@ use Rattle.script_reports.proofs.ReasonedLemmas.{told_halt}
 use Rattle.script_reports.proofs.reasons.explain.Goals as goal
 
 pub run_unwritten-requires-clause-ready : goal.run_unwritten-requires-clause-ready
-run_unwritten-requires-clause-ready g c = rw c.in_ok-session.ensures (ready-start c.args.circuit c.requires)
+run_unwritten-requires-clause-ready g c = rw c.in_ok-session.ensures.core (ready-start c.args.circuit c.requires)
 
 pub explain_at-requires : goal.explain_at-requires
 explain_at-requires g c =
@@ -22,7 +22,7 @@ explain_at-requires g c =
     let halt = c.in_ok-halt.halt in
     halted_size c.args.text.now c.args.circuit new asked told halt
     (subst (λ (start : SessionData). HaltsAt hear_nothing plain_reading (file.cut_line c.args.text.now) start (file.lines_in c.args.text.now) new tt tt asked told halt)
-    (ap (λ (session : HeldSession). session.core) c.in_ok-session.ensures) c.in_ok-halt.ensures.halts)
+    c.in_ok-session.ensures.core c.in_ok-halt.ensures.halts)
 
 pub returns-clause-told : goal.returns-clause-told
 returns-clause-told g c =
@@ -33,7 +33,7 @@ returns-clause-told g c =
     told_halt c.args.text.now c.args.name.now c.args.circuit new c.args.out.now.page.written c.explain_at.new.out.page.written asked told halt
     c.explain_at.result
     (subst (λ (start : SessionData). HaltsAt hear_nothing plain_reading (file.cut_line c.args.text.now) start (file.lines_in c.args.text.now) new tt tt asked told halt)
-    (ap (λ (session : HeldSession). session.core) c.in_ok-session.ensures) c.in_ok-halt.ensures.halts)
+    c.in_ok-session.ensures.core c.in_ok-halt.ensures.halts)
     c.explain_at.ensures.told
 
 pub returns-in_err-halt-clause-write : goal.returns-in_err-halt-clause-write

@@ -30,7 +30,7 @@ explains_rail c state node one walk lent same explains (Ok line) told = record {
 explains_rail c state node one walk lent same explains (Err fault) told = tt
 
 pub returns : goal.returns
-returns c =
+returns g c =
     let explains = rw (c.graph.ensures.value, c.circuit-circuit.ensures.value, c.state-state.ensures) at c.in_ok-walk.ensures in
     explains_rail c.args.session.now.core.circuit c.args.session.now.core.state c.args.node c.args.one c.in_ok-walk.walk c.as_ref.result c.as_ref.ensures.value
     explains c.reason_line.result

@@ -2,7 +2,7 @@
 use Rattle.std.proofs.Common.{List, ℕ, count_by, is_some, sym, subst, ◌∙◌, refl}
 use Rattle.path_meaning.specs.Graphs.{nodes}
 use Rattle.net_gen.specs.declared.families.GenPart.TheVariants.{Script}
-use Rattle.session_meaning.specs.Sessions.{HeldSession}
+use Rattle.session_meaning.specs.Sessions.{SessionData}
 use Rattle.wave_print.specs.declared.lines.Summary.{Summary}
 use Rattle.line_words.specs.Files as file
 use Rattle.command_line.specs.Samples.{sample_seen, text_of}
@@ -15,7 +15,7 @@ pub sum_up_lines-requires-clause-blank : goal.sum_up_lines-requires-clause-blank
 sum_up_lines-requires-clause-blank g c = subst IsBlank (sym c.summary_at_start-summary.ensures) refl
 
 pub sum_up_lines-requires-clause-ready : goal.sum_up_lines-requires-clause-ready
-sum_up_lines-requires-clause-ready g c = rw c.in_ok-session.ensures (ready-start c.args.circuit c.requires)
+sum_up_lines-requires-clause-ready g c = rw c.in_ok-session.ensures.core (ready-start c.args.circuit c.requires)
 
 pub returns-clause-told : goal.returns-clause-told
 returns-clause-told g c =
@@ -29,7 +29,7 @@ returns-clause-told g c =
     let script = text_of Script (sample_seen c.args.sample) in
     let size = nodes c.args.circuit.graph in
     let switches = count_by is_some c.args.circuit.graph.places in
-    subst (λ (session : HeldSession). IsToldBy (IsSummedUp size switches (file.cut_line script) session.core (file.lines_in script)) before after asked told result) c.in_ok-session.ensures
+    subst (λ (session : SessionData). IsToldBy (IsSummedUp size switches (file.cut_line script) session (file.lines_in script)) before after asked told result) c.in_ok-session.ensures.core
     (subst (λ (text : List ℕ). IsToldBy (IsSummedUp size switches (file.cut_line text) start (file.lines_in text)) before after asked told result)
     (c.deref.ensures.value ∙ c.in_ok-text.ensures)
     (subst (λ (counts : Summary). IsToldBy (IsSummedUp counts.nodes counts.switches (file.cut_line bytes) start (file.lines_in bytes)) before after asked told result)

@@ -24,14 +24,14 @@ returns-in_err-run_seen-clause-told g c =
     let come = comes_to c.loop-line.invariant.come c.in-Some.ensures.steps in
     let p = err_from_is_err_and c.from_residual.result c.from_residual.ensures.1 in
     rw p.1
-    (inr (halts_stop g.L.Lines.part c.loop-line.session come (g.met.R.LineReader.sound c.args.reader.now) c.run_seen.new.session (g.L.Lines.heard c.run_seen.new.out)
+    (inr (halts_stop g.L.Lines.part c.loop-line.session.core come (g.met.R.LineReader.sound c.args.reader.now) c.run_seen.new.session.core (g.L.Lines.heard c.run_seen.new.out)
     (g.A.Analyst.analysed c.run_seen.new.analyst) c.in_err-run_seen.field-0.0 c.in_err-run_seen.ensures.turn c.cut_line-cut.ensures))
 
 pub loop-line-preserved : goal.loop-line-preserved
 loop-line-preserved g c = record {
-  come = comes_on g.L.Lines.part c.loop-line.session (comes_to c.loop-line.invariant.come c.in-Some.ensures.steps) c.run_seen.new.session
+  come = comes_on g.L.Lines.part c.loop-line.session.core (comes_to c.loop-line.invariant.come c.in-Some.ensures.steps) c.run_seen.new.session.core
       (g.L.Lines.heard c.run_seen.new.out) (g.A.Analyst.analysed c.run_seen.new.analyst) c.in_ok-run_seen.ensures.turn c.in-Accepted.is;
-  shown = shown_on g.L.Lines.hear g.L.Lines.part c.loop-line.session c.run_seen.new.session (g.L.Lines.heard c.loop-line.out)
+  shown = shown_on g.L.Lines.hear g.L.Lines.part c.loop-line.session.core c.run_seen.new.session.core (g.L.Lines.heard c.loop-line.out)
       (g.L.Lines.heard c.run_seen.new.out) (g.A.Analyst.analysed c.loop-line.analyst) (g.A.Analyst.analysed c.run_seen.new.analyst)
       (shown_to c.loop-line.invariant.shown c.in-Some.ensures.steps) (g.O.Observer.seen c.run_seen.new.onlooker)
       (c.in_ok-run_seen.ensures.seen (ap Ok c.in-Accepted.is)) c.in_ok-run_seen.ensures.turn c.in-Accepted.is;
@@ -42,13 +42,13 @@ loop-line-preserved g c = record {
 
 pub returns-in-Refused-clause-told : goal.returns-in-Refused-clause-told
 returns-in-Refused-clause-told g c =
-    halts_refused g.L.Lines.part c.loop-line.session (comes_to c.loop-line.invariant.come c.in-Some.ensures.steps) c.run_seen.new.session
+    halts_refused g.L.Lines.part c.loop-line.session.core (comes_to c.loop-line.invariant.come c.in-Some.ensures.steps) c.run_seen.new.session.core
     (g.L.Lines.heard c.run_seen.new.out) (g.A.Analyst.analysed c.run_seen.new.analyst) c.in_ok-run_seen.ensures.turn c.in-Refused.is
     c.cut_line-cut.ensures
 
 pub returns-in-TooLarge-clause-told : goal.returns-in-TooLarge-clause-told
 returns-in-TooLarge-clause-told g c =
-    halts_large g.L.Lines.part c.loop-line.session (comes_to c.loop-line.invariant.come c.in-Some.ensures.steps) c.run_seen.new.session
+    halts_large g.L.Lines.part c.loop-line.session.core (comes_to c.loop-line.invariant.come c.in-Some.ensures.steps) c.run_seen.new.session.core
     (g.L.Lines.heard c.run_seen.new.out) (g.A.Analyst.analysed c.run_seen.new.analyst) c.in_ok-run_seen.ensures.turn c.in-TooLarge.is
     c.cut_line-cut.ensures
 

@@ -1,6 +1,5 @@
 -- A talk that broke off did so from the session's start, by a fault that stops it so.
 use Rattle.std.proofs.Common.{sym, ap, ◌∙◌}
-use Rattle.session_meaning.specs.Sessions.{HeldSession}
 use Rattle.run_ends.specs.Stops.{read_at, written_at}
 use Rattle.talk_run.proofs.StopLemmas.{broken_counted}
 use Rattle.talk_run.proofs.TalkingLemmas.{broken}
@@ -9,7 +8,7 @@ use Rattle.talk_run.proofs.speaking.talk_in.Goals as goal
 pub returns-clause-told : goal.returns-clause-told
 returns-clause-told g c =
     broken c.args.circuit c.in_ok-session.session.core (g.A.Analyst.analysed c.args.analyst) _ c.args.port.now.spoken.talk c.converse.new.port.spoken.talk
-    (ap (λ (held : HeldSession). held.core) c.in_ok-session.ensures) c.in-Err.ensures.err
+    c.in_ok-session.ensures.core c.in-Err.ensures.err
 
 pub returns-clause-hearing : goal.returns-clause-hearing
 returns-clause-hearing g c =
