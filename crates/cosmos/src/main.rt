@@ -27,9 +27,9 @@
 //! more. Under `talk` it has the cure of each refused line too, if standard input is a terminal. No clause speaks of
 //! standard error.
 //!
-//! `answer_over` makes that call, over any opener of files and a printer to any outlet, and has its clauses for all of
-//! them; `main` hands it the files of the system and a printer to standard output. `talk_over` does so for a talk, over
-//! any port of one, and `dump_over` for a dump, over any outlet.
+//! `answer_over` makes that call, over any opener of files, a printer to any outlet and any stage that moves the state, and
+//! has its clauses for all of them; `main` hands it the files of the system, a printer to standard output and the machine.
+//! `talk_over` does so for a talk, over any port of one, and `dump_over` for a dump, over any outlet.
 //!
 //! ```text
 //! cosmos sim inverter.sim inverter.cmd
@@ -48,9 +48,11 @@ ghost use Rattle.cosmos_app.specs.Talking.{HandsOn, HasReadOnce, IsTalkTo};
 mod telling;
 mod told;
 
+use column_stage::PlainStage;
 use command_line::{dump_names, talk_net};
 use cosmos_app::{Status, dump, run, talk};
 use group_analysis::Analyst;
+use machine_stage::MachineStage;
 use node_elimination::SymbolicAnalyst;
 use port_edge::{FilesOver, Open, Outlet, SinkOver, real_files, real_outlet};
 use std::alloc::Global;
@@ -113,7 +115,13 @@ fn answer(rt: &HostRuntime, words: &[String], keys: TableKeys) -> Status {
     };
     let mut files = real_files(rt, keys);
     let mut analyst = SymbolicAnalyst::with_keys(rt.alloc(), keys);
-    let status = answer_over(rt.alloc(), words, &mut files, &mut out, &mut analyst);
+    let status = answer_over::<MachineStage, _, _, _>(
+        rt.alloc(),
+        words,
+        &mut files,
+        &mut out,
+        &mut analyst,
+    );
     let sink = out.into_sink();
     sink.outlet().finish();
     let (of_file, of_output) = (files.reason(), sink.reason());
@@ -133,7 +141,14 @@ fn answer_dump(
     let sink = SinkOver::new(Told::over(real_outlet(rt), rt, words));
     let mut files = real_files(rt, keys);
     let mut analyst = SymbolicAnalyst::with_keys(rt.alloc(), keys);
-    let (sink, status) = dump_over(rt.alloc(), net, script, &mut files, sink, &mut analyst);
+    let (sink, status) = dump_over::<MachineStage, _, _, _>(
+        rt.alloc(),
+        net,
+        script,
+        &mut files,
+        sink,
+        &mut analyst,
+    );
     sink.outlet().finish();
     let (of_file, of_output) = (files.reason(), sink.reason());
     tell_stop(rt, words, status, files.name(), of_file, of_output);
@@ -149,7 +164,7 @@ fn answer_talk(rt: &HostRuntime, words: &[String], net: &str, keys: TableKeys) -
     };
     let mut files = real_files(rt, keys);
     let analyst = SymbolicAnalyst::with_keys(rt.alloc(), keys);
-    let status = talk_over(rt.alloc(), net, &mut files, &mut out, analyst);
+    let status = talk_over::<MachineStage, _, _, _>(rt.alloc(), net, &mut files, &mut out, analyst);
     let of_talk = out.into_port().reason();
     if files.reason().is_some() || of_talk.is_none() {
         tell_stop(rt, words, status, files.name(), files.reason(), None);
@@ -173,7 +188,7 @@ fn real_teller<'r, 'w>(
 }
 
 // Answers the words over the files of an opener and a printer to an outlet.
-fn answer_over<O: Open + Drop, W: Outlet + Drop, A: Analyst>(
+fn answer_over<M: PlainStage, O: Open + Drop, W: Outlet + Drop, A: Analyst>(
     alloc: Global,
     words: &[String],
     files: &mut FilesOver<O>,
@@ -187,11 +202,11 @@ fn answer_over<O: Open + Drop, W: Outlet + Drop, A: Analyst>(
     ensures read { files.new.faults ≡ files_count files.old.faults result }
     ensures write { out.new.faults ≡ sink_count out.old.faults result }
 {
-    run(alloc, words, files, out, analyst)
+    run::<M, _, _, _>(alloc, words, files, out, analyst)
 }
 
 // Writes the dump of a script's run over the files of an opener and any outlet.
-fn dump_over<O: Open + Drop, T: Outlet + Drop, A: Analyst>(
+fn dump_over<M: PlainStage, O: Open + Drop, T: Outlet + Drop, A: Analyst>(
     alloc: Global,
     net: &str,
     script: &str,
@@ -206,11 +221,11 @@ fn dump_over<O: Open + Drop, T: Outlet + Drop, A: Analyst>(
     ensures read { files.new.faults ≡ files_count files.old.faults result.1 }
     ensures write { result.0.faults ≡ sink_count out.faults result.1 }
 {
-    dump(alloc, net, script, files, out, analyst)
+    dump::<M, _, _, _>(alloc, net, script, files, out, analyst)
 }
 
 // Holds the talk about a netlist or a deck over the files of an opener and the port of any talk.
-fn talk_over<O: Open + Drop, T: Talk + Drop, A: Analyst + Drop>(
+fn talk_over<M: PlainStage, O: Open + Drop, T: Talk + Drop, A: Analyst + Drop>(
     alloc: Global,
     net: &str,
     files: &mut FilesOver<O>,
@@ -223,5 +238,5 @@ fn talk_over<O: Open + Drop, T: Talk + Drop, A: Analyst + Drop>(
     ensures read { HasReadOnce files.old.faults files.new.faults out.old.spoken.unheard out.new.spoken.unheard result }
     ensures write { out.new.faults ≡ sink_count out.old.faults result }
 {
-    talk(alloc, net, files, out, analyst)
+    talk::<M, _, _, _>(alloc, net, files, out, analyst)
 }

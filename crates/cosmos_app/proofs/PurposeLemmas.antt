@@ -1,14 +1,13 @@
 -- The run of a script for a purpose: what is told of the text that was read is told of the file, and of the question for the run.
-use Rattle.std.proofs.Common.{◌≡◌, ℕ, false, List, [], ◌∷◌, Option, None, Some, IfSome, Result, refl, ap, subst, ◌∙◌}
+use Rattle.std.proofs.Common.{◌≡◌, ℕ, ◌<◌, true, false, List, [], ◌∷◌, Option, None, Some, IfSome, Result, refl, ap, subst, ◌∙◌}
 use Rattle.line_words.specs.Files.{front_of, lines_in, cut_line}
 use Rattle.line_words.proofs.FileLemmas.{cut_line-front_of, lines_in-front_of}
 use Rattle.netlist.specs.Circuits.{CircuitData}
 use Rattle.group_text.specs.Texts.{GroupTextData}
 use Rattle.told_lines.specs.Printing.{Page, PrinterData, print, PrintsPart}
 use Rattle.session_meaning.specs.Sessions.{SessionData, start_of}
-use Rattle.lane_session.specs.LaneSessions.{LaneSessionData, session_in, IsStart}
-use Rattle.lane_run.specs.Batches.{IsBatchAnswer}
-use Rattle.lane_run.proofs.RunLemmas.{together-same}
+use Rattle.column_run.specs.Batches.{IsBatchAnswer}
+use Rattle.column_run.proofs.RunLemmas.{in_all-same}
 use Rattle.run_ends.specs.declared.stop.Stop.{Stop}
 use Rattle.run_ends.specs.declared.stop.End as end
 use Rattle.run_ends.specs.Answers.{Answer}
@@ -45,25 +44,30 @@ told_lines circuit start new text printer plain after asked told result first se
     (ap (λ (now : PrinterData). now.page.numbered) set) run))
 
 -- the answer of columns at their start is that in so many columns
-answers_columns : (lanes : ℕ) (circuit : CircuitData) (session : LaneSessionData) (text : List ℕ) (answer : Answer) → session.lanes ≡ lanes →
-    IsStart circuit session → IsBatchAnswer session.lanes (cut_line text) (session_in session) (lines_in text) answer → IsBatch lanes text circuit answer
-answers_columns lanes circuit session text answer same start right =
+answers_columns : (lanes count : ℕ) (circuit : CircuitData) (columns : ℕ → SessionData) (text : List ℕ) (answer : Answer) → count ≡ lanes →
+    ((lane : ℕ) → lane < count → columns lane ≡ start_of circuit) → IsBatchAnswer count (cut_line text) columns (lines_in text) answer →
+    IsBatch lanes text circuit answer
+answers_columns lanes count circuit columns text answer same start right =
     subst (λ (n : ℕ). IsBatch n text circuit answer) same
     (record {
-      text = right.text;
+      rows = right.rows;
       refused = right.refused;
-      runs = together-same session.lanes (cut_line text) (λ lane. start_of circuit) (session_in session) (lines_in text) right.text answer.texts
-          right.refused start right.runs;
+      runs = in_all-same count (cut_line text) (λ lane. start_of circuit) columns (lines_in text) right.rows answer.texts right.refused start right.runs;
       told = right.told;
     })
 
-pub told_columns : (lanes : ℕ) (circuit : CircuitData) (session : LaneSessionData) (text : List ℕ) (before after : Option (List ℕ)) (asked told : List GroupTextData) (result : Result end.End Stop) →
-    session.lanes ≡ lanes → IsStart circuit session →
-    IsToldBy (IsBatchAnswer session.lanes (cut_line text) (session_in session) (lines_in text)) before after asked told result →
-    IsToldBy (IsBatch lanes text circuit) before after asked told result
-told_columns lanes circuit session text before after asked told result same start run =
-    told_by_as (IsBatchAnswer session.lanes (cut_line text) (session_in session) (lines_in text)) (IsBatch lanes text circuit) before after asked told result
-    (λ answer right. answers_columns lanes circuit session text answer same start right) run
+-- so it is with columns whose lines were told to a printer once it was set to number columns
+pub told_columns : (lanes count : ℕ) (circuit : CircuitData) (columns : ℕ → SessionData) (text : List ℕ) (printer numbered : PrinterData) (after : Option (List ℕ))
+    (asked told : List GroupTextData) (result : Result end.End Stop) → count ≡ lanes → ((lane : ℕ) → lane < count → columns lane ≡ start_of circuit) →
+    numbered ≡ record printer { page = record printer.page { numbered = true } } →
+    IsToldBy (IsBatchAnswer count (cut_line text) columns (lines_in text)) numbered.page.written after asked told result →
+    IsToldBy (IsBatch lanes text circuit) printer.page.written after asked told result
+told_columns lanes count circuit columns text printer numbered after asked told result same start set run =
+    told_by_as (IsBatchAnswer count (cut_line text) columns (lines_in text)) (IsBatch lanes text circuit) printer.page.written after asked told result
+    (λ answer right. answers_columns lanes count circuit columns text answer same start right)
+    (subst
+    (λ (before : Option (List ℕ)). IsToldBy (IsBatchAnswer count (cut_line text) columns (lines_in text)) before after asked told result)
+    (ap (λ (now : PrinterData). now.page.written) set) run)
 
 -- ---- the text that was read
 

@@ -11,7 +11,7 @@ use Rattle.session_meaning.specs.Sessions.{start_of}
 use Rattle.run_ends.specs.Answers.{Answer}
 use Rattle.script_meaning.specs.Runs.{plain_reading}
 use Rattle.script_meaning.proofs.UniqueRuns.{answer_unique}
-use Rattle.lane_run.proofs.UniqueBatches.{batch_unique}
+use Rattle.column_run.proofs.UniqueBatches.{batch_unique}
 use Rattle.fault_meaning.proofs.UniqueJudging.{judged_faults_unique}
 use Rattle.circuit_reports.specs.Alike.{AreAlike}
 use Rattle.circuit_reports.proofs.UniqueAnswers as circuit

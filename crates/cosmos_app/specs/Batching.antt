@@ -4,7 +4,7 @@ use Rattle.line_words.specs.Files.{lines_in, cut_line}
 use Rattle.netlist.specs.Circuits.{CircuitData}
 use Rattle.run_ends.specs.Answers.{Answer}
 use Rattle.session_meaning.specs.Sessions.{start_of}
-use Rattle.lane_run.specs.Batches.{IsBatchAnswer}
+use Rattle.column_run.specs.Batches.{IsBatchAnswer}
 
 -- the answer of a script in so many columns: that of its lines, from the start in the circuit in each of them
 abbrev pub IsBatch : ℕ → List ℕ → CircuitData → Answer → Type 0

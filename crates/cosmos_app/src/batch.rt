@@ -1,4 +1,4 @@
-//! What `batch` writes: the run of a script in columns.
+//! What `batch` writes: the run of a script in columns, on the machine of columns.
 
 ghost use Rattle.std.specs.Prelude.{◌≡◌, ◌≢◌, IfErr};
 ghost use Rattle.netlist.specs.Circuits.{IsCircuit};
@@ -6,10 +6,11 @@ ghost use Rattle.run_ends.specs.Stops.{faults_written, IsRefusedOnce};
 ghost use Rattle.run_ends.specs.Ends.{IsToldBy};
 ghost use Rattle.cosmos_app.specs.Batching as spec;
 
+use column_machine_stage::ColumnMachineStage;
+use column_run::run_batch;
 use command_line::Lanes;
+use cosmos_session::Session;
 use group_analysis::Analyst;
-use lane_run::run_batch;
-use lane_session::LaneSession;
 use netlist::Circuit;
 use port_edge::Sink;
 use run_ends::{End, Stop};
@@ -32,6 +33,8 @@ pub(crate) fn run_columns<S: Sink + Drop, A: Analyst>(
     ensures write { out.new.faults ≡ faults_written out.old.faults result }
     ensures refused { IsRefusedOnce out.old.refusals out.new.refusals result }
 {
-    let mut session = LaneSession::new(alloc, circuit, lanes.count)?;
+    let stage = ColumnMachineStage::start(alloc, lanes.count, circuit.graph().nodes())?;
+    let mut session = Session::<ColumnMachineStage>::over(alloc, circuit, stage);
+    out.set_numbered(true);
     run_batch(alloc, &mut session, text, out, analyst)
 }

@@ -20,6 +20,7 @@ ghost use Rattle.cosmos_app.specs.Wholes.{ReadsAll, files_of, needed};
 use crate::top::end_status;
 use circuit_files::{read_circuit, read_deck_file, read_file};
 use circuit_reports::{refuse_deck, refuse_net};
+use column_stage::PlainStage;
 use command_line::is_deck_name;
 use dump_run::dump_script;
 use group_analysis::Analyst;
@@ -33,7 +34,7 @@ use std::alloc::Global;
 /// the deck if that is the name of one. It hands back the sink.
 ///
 /// A netlist or a deck with a refused line has the line of that refusal in the place of the dump, and the script isn't read.
-pub fn dump<F: Files, S: Sink + Drop, A: Analyst>(
+pub fn dump<M: PlainStage, F: Files, S: Sink + Drop, A: Analyst>(
     alloc: Global,
     net: &str,
     script: &str,
@@ -60,12 +61,12 @@ pub fn dump<F: Files, S: Sink + Drop, A: Analyst>(
     ensures refused { HasRefused (S.refusals out) (S.refusals result.0) result.1 }
     ensures untouched { result.1 ≡ Status.ReadFault → S.written result.0 ≡ S.written out }
 {
-    let (sink, end) = dump_named(alloc, net, script, files, out, analyst);
+    let (sink, end) = dump_named::<M, _, _, _>(alloc, net, script, files, out, analyst);
     (sink, end_status(end))
 }
 
 // Dumps the run of the script in the circuit of the deck, if the name is that of one, or else of the netlist.
-fn dump_named<F: Files, S: Sink + Drop, A: Analyst>(
+fn dump_named<M: PlainStage, F: Files, S: Sink + Drop, A: Analyst>(
     alloc: Global,
     net: &str,
     script: &str,
@@ -86,15 +87,15 @@ fn dump_named<F: Files, S: Sink + Drop, A: Analyst>(
     ensures untouched { IsUntouched (S.written out) (S.written result.0) result.1 }
 {
     if is_deck_name(net) {
-        dump_deck(alloc, net, script, files, out, analyst)
+        dump_deck::<M, _, _, _>(alloc, net, script, files, out, analyst)
     } else {
-        dump_net(alloc, net, script, files, out, analyst)
+        dump_net::<M, _, _, _>(alloc, net, script, files, out, analyst)
     }
 }
 
 // Reads the netlist, and dumps the run of the script in its circuit.
 #[tactic(auto, using(run_ends::proofs::EndLemmas::read_none, run_ends::proofs::EndLemmas::untouched_none))]
-fn dump_net<F: Files, S: Sink + Drop, A: Analyst>(
+fn dump_net<M: PlainStage, F: Files, S: Sink + Drop, A: Analyst>(
     alloc: Global,
     net: &str,
     script: &str,
@@ -115,7 +116,7 @@ fn dump_net<F: Files, S: Sink + Drop, A: Analyst>(
 {
     let mut refused = Vec::new(alloc);
     match read_circuit(alloc, files, net, &mut refused) {
-        Ok(Ok(circuit)) => dump_file(alloc, circuit, script, files, out, analyst),
+        Ok(Ok(circuit)) => dump_file::<M, _, _, _>(alloc, circuit, script, files, out, analyst),
         Ok(Err(refusal)) => {
             let mut sink = out;
             let end = refuse_net(alloc, refusal, &refused, &mut sink);
@@ -127,7 +128,7 @@ fn dump_net<F: Files, S: Sink + Drop, A: Analyst>(
 
 // Reads the deck, and dumps the run of the script in its circuit.
 #[tactic(auto, using(run_ends::proofs::EndLemmas::read_none, run_ends::proofs::EndLemmas::untouched_none))]
-fn dump_deck<F: Files, S: Sink + Drop, A: Analyst>(
+fn dump_deck<M: PlainStage, F: Files, S: Sink + Drop, A: Analyst>(
     alloc: Global,
     deck: &str,
     script: &str,
@@ -148,7 +149,7 @@ fn dump_deck<F: Files, S: Sink + Drop, A: Analyst>(
 {
     let mut refused = Vec::new(alloc);
     match read_deck_file(alloc, files, deck, &mut refused) {
-        Ok(Ok(circuit)) => dump_file(alloc, circuit, script, files, out, analyst),
+        Ok(Ok(circuit)) => dump_file::<M, _, _, _>(alloc, circuit, script, files, out, analyst),
         Ok(Err(refusal)) => {
             let mut sink = out;
             let end = refuse_deck(alloc, refusal.line, refusal.what, &refused, &mut sink);
@@ -159,7 +160,7 @@ fn dump_deck<F: Files, S: Sink + Drop, A: Analyst>(
 }
 
 // Reads the script, and dumps its run in the circuit.
-fn dump_file<F: Files, S: Sink + Drop, A: Analyst>(
+fn dump_file<M: PlainStage, F: Files, S: Sink + Drop, A: Analyst>(
     alloc: Global,
     circuit: Circuit,
     script: &str,
@@ -180,7 +181,7 @@ fn dump_file<F: Files, S: Sink + Drop, A: Analyst>(
     ensures untouched { IsUntouched (S.written out) (S.written result.0) result.1 }
 {
     match read_file(alloc, files, script) {
-        Ok(text) => dump_script(alloc, circuit, &text, out, analyst),
+        Ok(text) => dump_script::<M, _, _>(alloc, circuit, &text, out, analyst),
         Err(stop) => (out, Err(stop)),
     }
 }

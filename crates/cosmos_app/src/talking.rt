@@ -13,6 +13,7 @@ use crate::noting::NotingSink;
 use crate::top::end_status;
 use circuit_files::{read_circuit, read_deck_file};
 use circuit_reports::{refuse_deck, refuse_net};
+use column_stage::PlainStage;
 use command_line::is_deck_name;
 use group_analysis::Analyst;
 use line_words::MOST_FILE_BYTES;
@@ -30,7 +31,7 @@ use talk_run::{Teller, talk_in};
 /// session in the circuit answers each line when it is heard, until the end is heard or a line quits. After a fault of
 /// reading, of a file or of a line, each line that was heard is answered; after a fault of writing, or lack of memory,
 /// the last one perhaps in part.
-pub fn talk<F: Files, T: Talk + Drop, A: Analyst + Drop>(
+pub fn talk<M: PlainStage, F: Files, T: Talk + Drop, A: Analyst + Drop>(
     alloc: Global,
     net: &str,
     files: &mut F,
@@ -50,11 +51,11 @@ pub fn talk<F: Files, T: Talk + Drop, A: Analyst + Drop>(
     ensures started { StartsAtMost (F.started files.old) (F.started files.new) net.now }
     ensures taken { TakesFiles (F.taken files.old) (F.taken files.new) (MOST_FILE_BYTES + 1) }
 {
-    end_status(hold(alloc, net, files, out, analyst))
+    end_status(hold::<M, _, _, _>(alloc, net, files, out, analyst))
 }
 
 // Reads the netlist or the deck, and holds the talk about it.
-fn hold<F: Files, T: Talk + Drop, A: Analyst + Drop>(
+fn hold<M: PlainStage, F: Files, T: Talk + Drop, A: Analyst + Drop>(
     alloc: Global,
     net: &str,
     files: &mut F,
@@ -72,12 +73,12 @@ fn hold<F: Files, T: Talk + Drop, A: Analyst + Drop>(
     let mut refused = Vec::new(alloc);
     if is_deck_name(net) {
         match read_deck_file(alloc, files, net, &mut refused)? {
-            Ok(circuit) => talk_in(alloc, circuit, analyst, out),
+            Ok(circuit) => talk_in::<M, _, _>(alloc, circuit, analyst, out),
             Err(refusal) => say_deck_refusal(alloc, refusal.line, refusal.what, &refused, out),
         }
     } else {
         match read_circuit(alloc, files, net, &mut refused)? {
-            Ok(circuit) => talk_in(alloc, circuit, analyst, out),
+            Ok(circuit) => talk_in::<M, _, _>(alloc, circuit, analyst, out),
             Err(refusal) => say_net_refusal(alloc, refusal, &refused, out),
         }
     }

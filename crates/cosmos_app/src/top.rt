@@ -23,6 +23,7 @@ use crate::faults::judge_list;
 use crate::reports::report_on;
 use circuit_files::{read_circuit, read_deck_file, read_file};
 use circuit_reports::{refuse_deck, refuse_net, refuse_words, show_text, write_part};
+use column_stage::PlainStage;
 use command_line::{Alone, Purpose, Question, Request, request_of};
 use cosmos_session::Session;
 use group_analysis::Analyst;
@@ -78,7 +79,7 @@ use told_lines::Printer;
 /// under `batch` alone. All other texts are written to that sink as they are.
 ///
 /// Tables whose entries come from the files are hashed with the keys that the files have.
-pub fn run<F: Files, S: Sink + Drop, A: Analyst>(
+pub fn run<M: PlainStage, F: Files, S: Sink + Drop, A: Analyst>(
     alloc: Global,
     words: &[String],
     files: &mut F,
@@ -108,7 +109,7 @@ pub fn run<F: Files, S: Sink + Drop, A: Analyst>(
     // Where a file can't be read nothing was written.
     ensures untouched { result ≡ Status.ReadFault → out.new ≡ out.old }
 {
-    end_status(answer(alloc, words, files, out, analyst))
+    end_status(answer::<M, _, _, _>(alloc, words, files, out, analyst))
 }
 
 // The status that a run ends with.
@@ -128,7 +129,7 @@ pub(crate) fn end_status(end: Result<End, Stop>) -> Status
 }
 
 // Answers the words.
-fn answer<F: Files, S: Sink + Drop, A: Analyst>(
+fn answer<M: PlainStage, F: Files, S: Sink + Drop, A: Analyst>(
     alloc: Global,
     words: &[String],
     files: &mut F,
@@ -149,16 +150,18 @@ fn answer<F: Files, S: Sink + Drop, A: Analyst>(
     ensures untouched { IsUntouched out.old out.new result }
 {
     match request_of(words) {
-        Request::About { net, question } => answer_about(alloc, net, question, files, out, analyst),
-        Request::OverDeck { deck, question } => answer_over_deck(
+        Request::About { net, question } => answer_about::<M, _, _, _>(
+            alloc, net, question, files, out, analyst,
+        ),
+        Request::OverDeck { deck, question } => answer_over_deck::<M, _, _, _>(
             alloc, deck, question, files, out, analyst,
         ),
-        Request::Alone(alone) => answer_alone(alloc, files.keys(), alone, out, analyst),
+        Request::Alone(alone) => answer_alone::<M, _, _>(alloc, files.keys(), alone, out, analyst),
     }
 }
 
 // Answers what needs no file.
-fn answer_alone<S: Sink + Drop, A: Analyst>(
+fn answer_alone<M: PlainStage, S: Sink + Drop, A: Analyst>(
     alloc: Global,
     keys: TableKeys,
     alone: Alone<'_>,
@@ -173,7 +176,7 @@ fn answer_alone<S: Sink + Drop, A: Analyst>(
 {
     match alone {
         Alone::Generate { part, sample } => write_part(alloc, part, sample, out),
-        Alone::SumUp(sample) => sum_up(alloc, keys, sample, out, analyst),
+        Alone::SumUp(sample) => sum_up::<M, _, _>(alloc, keys, sample, out, analyst),
         Alone::Show(text) => show_text(text, out),
         Alone::Unclear => refuse_words(out),
     }
@@ -181,7 +184,7 @@ fn answer_alone<S: Sink + Drop, A: Analyst>(
 
 // Reads the netlist, and answers the question in its circuit.
 #[tactic(auto, using(run_ends::proofs::EndLemmas::read_none, run_ends::proofs::EndLemmas::untouched_none))]
-fn answer_about<F: Files, S: Sink + Drop, A: Analyst>(
+fn answer_about<M: PlainStage, F: Files, S: Sink + Drop, A: Analyst>(
     alloc: Global,
     net: &str,
     question: Question<'_>,
@@ -206,14 +209,14 @@ fn answer_about<F: Files, S: Sink + Drop, A: Analyst>(
 {
     let mut refused = Vec::new(alloc);
     match read_circuit(alloc, files, net, &mut refused)? {
-        Ok(circuit) => answer_in(alloc, circuit, question, files, out, analyst),
+        Ok(circuit) => answer_in::<M, _, _, _>(alloc, circuit, question, files, out, analyst),
         Err(refusal) => refuse_net(alloc, refusal, &refused, out),
     }
 }
 
 // Reads the deck, and answers the question in its circuit.
 #[tactic(auto, using(run_ends::proofs::EndLemmas::read_none, run_ends::proofs::EndLemmas::untouched_none))]
-fn answer_over_deck<F: Files, S: Sink + Drop, A: Analyst>(
+fn answer_over_deck<M: PlainStage, F: Files, S: Sink + Drop, A: Analyst>(
     alloc: Global,
     deck: &str,
     question: Question<'_>,
@@ -238,13 +241,13 @@ fn answer_over_deck<F: Files, S: Sink + Drop, A: Analyst>(
 {
     let mut refused = Vec::new(alloc);
     match read_deck_file(alloc, files, deck, &mut refused)? {
-        Ok(circuit) => answer_in(alloc, circuit, question, files, out, analyst),
+        Ok(circuit) => answer_in::<M, _, _, _>(alloc, circuit, question, files, out, analyst),
         Err(refusal) => refuse_deck(alloc, refusal.line, refusal.what, &refused, out),
     }
 }
 
 // Answers a question about a circuit.
-fn answer_in<F: Files, S: Sink + Drop, A: Analyst>(
+fn answer_in<M: PlainStage, F: Files, S: Sink + Drop, A: Analyst>(
     alloc: Global,
     circuit: Circuit,
     question: Question<'_>,
@@ -269,10 +272,10 @@ fn answer_in<F: Files, S: Sink + Drop, A: Analyst>(
 {
     match question {
         Question::Run { script, purpose } => {
-            run_script(alloc, circuit, script, purpose, files, out, analyst)
+            run_script::<M, _, _, _>(alloc, circuit, script, purpose, files, out, analyst)
         }
         Question::Judge { script, list } => {
-            judge_list(alloc, circuit, script, list, files, out, analyst)
+            judge_list::<M, _, _, _>(alloc, circuit, script, list, files, out, analyst)
         }
         Question::Report(report) => {
             report_on(alloc, files.keys(), &circuit, report, out, analyst)
@@ -281,7 +284,7 @@ fn answer_in<F: Files, S: Sink + Drop, A: Analyst>(
 }
 
 // Reads the script and runs it in the circuit, for a purpose.
-fn run_script<F: Files, S: Sink + Drop, A: Analyst>(
+fn run_script<M: PlainStage, F: Files, S: Sink + Drop, A: Analyst>(
     alloc: Global,
     circuit: Circuit,
     script: &str,
@@ -303,11 +306,11 @@ fn run_script<F: Files, S: Sink + Drop, A: Analyst>(
     ensures untouched { IsUntouched out.old out.new result }
 {
     let text = read_file(alloc, files, script)?;
-    run_text(alloc, circuit, &text, purpose, out, analyst)
+    run_text::<M, _, _>(alloc, circuit, &text, purpose, out, analyst)
 }
 
 // Runs the lines of a script from the start in the circuit, for a purpose.
-fn run_text<S: Sink + Drop, A: Analyst>(
+fn run_text<M: PlainStage, S: Sink + Drop, A: Analyst>(
     alloc: Global,
     circuit: Circuit,
     text: &[u8],
@@ -323,15 +326,15 @@ fn run_text<S: Sink + Drop, A: Analyst>(
     ensures refused { IsRefusedOnce out.old.refusals out.new.refusals result }
 {
     match purpose {
-        Purpose::Lines => simulate(alloc, circuit, text, out, analyst),
+        Purpose::Lines => simulate::<M, _, _>(alloc, circuit, text, out, analyst),
         Purpose::Columns(lanes) => run_columns(alloc, circuit, lanes, text, out, analyst),
-        Purpose::Reasons(node) => explain(alloc, circuit, text, node, out, analyst),
-        Purpose::Cover => cover_script(alloc, circuit, text, out, analyst),
+        Purpose::Reasons(node) => explain::<M, _, _>(alloc, circuit, text, node, out, analyst),
+        Purpose::Cover => cover_script::<M, _, _>(alloc, circuit, text, out, analyst),
     }
 }
 
 // Runs the lines of a script from the start in the circuit.
-fn simulate<S: Sink + Drop, A: Analyst>(
+fn simulate<M: PlainStage, S: Sink + Drop, A: Analyst>(
     alloc: Global,
     circuit: Circuit,
     text: &[u8],
@@ -345,7 +348,7 @@ fn simulate<S: Sink + Drop, A: Analyst>(
     ensures write { out.new.faults ≡ faults_written out.old.faults result }
     ensures refused { IsRefusedOnce out.old.refusals out.new.refusals result }
 {
-    let mut session = Session::new(alloc, circuit)?;
+    let mut session = Session::<M>::new(alloc, circuit)?;
     out.set_numbered(false);
     run_lines(alloc, &mut session, text, out, analyst)
 }

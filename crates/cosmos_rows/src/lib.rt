@@ -21,6 +21,7 @@ ghost use Rattle.cosmos_app.specs.Wholes.{ReadsAll};
 
 use cosmos_app::{Status, run};
 use group_analysis::Analyst;
+use machine_stage::MachineStage;
 use port_edge::{HonestFiles, HonestSink};
 use std::alloc::Global;
 use told_lines::Printer;
@@ -49,7 +50,7 @@ pub fn run_in_memory<A: Analyst>(
     ensures no_write_fault { result.0 ≢ Status.WriteFault }
 {
     let mut printer = out;
-    let status = run(alloc, words, files, &mut printer, analyst);
+    let status = run::<MachineStage, _, _, _>(alloc, words, files, &mut printer, analyst);
     (status, printer.into_sink())
 }
 

@@ -1,6 +1,7 @@
 use crate::step_by_program;
 use crate::texts::{INVERTER, LIST, RUNS, SCRIPT, SENT};
 use cosmos_app::{Status, run};
+use machine_stage::MachineStage;
 use node_elimination::SymbolicAnalyst;
 use port_edge::{HonestFiles, MemFiles, MemSink};
 use std::alloc::Global;
@@ -39,7 +40,7 @@ fn answer(
     let mut files = MemFiles::new(alloc, table, Vec::from_slice(alloc, &[fails.0])?, 5);
     let sink = MemSink::new(alloc, Vec::from_slice(alloc, &[fails.1])?, 1);
     let mut out = Printer::new(alloc, sink, false)?;
-    let status = run(
+    let status = run::<MachineStage, _, _, _>(
         alloc,
         &words,
         &mut files,

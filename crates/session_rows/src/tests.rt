@@ -1,5 +1,6 @@
 use cosmos_session::Session;
 use line_words::lines;
+use machine_stage::MachineStage;
 use node_elimination::SymbolicAnalyst;
 use script_meaning::Turn;
 use script_run::{Plain, run_line};
@@ -50,7 +51,7 @@ fn the_machine_lives_through_edits_and_marks_what_may_move(rt: HostRuntime) -> R
         let mut session = session_of(rt.alloc(), net)?;
         for (script, counts) in *pieces {
             assert!(rt; follow(rt.alloc(), &mut session, script, &mut analyst));
-            let Some(machine) = session.machine() else {
+            let Some(machine) = session.stage().machine() else {
                 panic!(rt; "no machine");
             };
             assert!(rt; (machine.marked(), machine.moves(), machine.placed()) == *counts);
@@ -78,7 +79,7 @@ fn a_cut_gives_gates_back(rt: HostRuntime) -> Result<(), Fail> {
 // Runs the lines of a script in a session; whether each is accepted.
 fn follow(
     alloc: Global,
-    session: &mut Session,
+    session: &mut Session<MachineStage>,
     script: &[u8],
     analyst: &mut SymbolicAnalyst,
 ) -> bool {
@@ -93,7 +94,7 @@ fn follow(
 }
 
 // A session at its start.
-fn session_of(alloc: Global, net: &[u8]) -> Result<Session, Fail> {
+fn session_of(alloc: Global, net: &[u8]) -> Result<Session<MachineStage>, Fail> {
     let circuit = read_netlist(alloc, TableKeys::fixed(), net)?;
-    Ok(Session::new(alloc, circuit)?)
+    Ok(Session::<MachineStage>::new(alloc, circuit)?)
 }
