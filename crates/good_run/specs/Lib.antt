@@ -1,0 +1,4 @@
+pub mod Recording
+pub mod Looks
+pub mod Laws
+pub mod Words
