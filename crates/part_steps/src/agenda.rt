@@ -65,6 +65,14 @@ impl Agenda {
         self.work.len() + self.stale
     }
 
+    /// Whether this part is marked.
+    pub fn is_marked(&self, k: usize) -> bool
+        requires { k < length self.now.marks }
+        ensures { result ≡ slice_index_or self.now.marks k false }
+    {
+        self.marks[k]
+    }
+
     /// Whether no part waits.
     pub fn none_waits(&self) -> bool
         ensures { OnTrue result ((k : ℕ) → ¬ IsMarked self.now.waiting k) }

@@ -29,11 +29,11 @@ pub struct Desk {
     pub batches: Batches,
 }
 
-// Evaluates all marked parts that have code, and clears their marks. No state is written.
-//
-// Parts of one code are run together. A part is read through its seat alone: what stands with the part itself is
-// far apart in memory.
-pub(crate) fn evaluate_all<L: Ledger>(
+/// Evaluates all marked parts that have code, and clears their marks. No state is written.
+///
+/// Parts of one code are run together. A part is read through its seat alone: what stands with the part itself is
+/// far apart in memory.
+pub fn evaluate_all<L: Ledger>(
     joining: bool,
     parts: &[HeldPart],
     dense: &DenseParts,

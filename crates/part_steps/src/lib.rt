@@ -11,7 +11,7 @@
 //! out of the first changes: the parts that read it are marked, and no other
 //! ```
 //!
-//! For the proofs of crates above: `DenseLemmas` (seats tell codes and maps), `TakingLemmas` (the changes of a step
+//! For the proofs of crates above: `AdvanceLemmas` (what a step does, from what was noted of it), `DenseLemmas` (seats tell codes and maps), `TakingLemmas` (the changes of a step
 //! are taken over), `PuttingLemmas` (what is put in places of a list).
 //!
 //! After Bryant, Beatty, Brace, Cho and Sheffler, "COSMOS: A Compiled Simulator for MOS Circuits",
@@ -31,7 +31,7 @@ mod stepping;
 pub use agenda::{Agenda, mark_all, numbers_below};
 pub use batches::Batches;
 pub use dense::{DenseParts, Seat};
-pub use evaluation::Desk;
+pub use evaluation::{Desk, evaluate_all};
 pub use laws::{limits_are_as_stated, small_parts_fit};
 pub use making::{
     Needs, all_owners, count_held, desk_for, held_parts, needs_of, own, widen_for_codes,
@@ -39,4 +39,4 @@ pub use making::{
 };
 pub use putting::put_in;
 pub use readers::ReaderLists;
-pub use stepping::advance;
+pub use stepping::{advance, is_any, mark_again};

@@ -68,16 +68,16 @@ pub fn advance<L: Ledger>(
     is_any(&desk.changes, noted)
 }
 
-// Whether some change is in one of these lists.
-fn is_any(one: &[Change], two: &[Change]) -> bool
+/// Whether some change is in one of these lists.
+pub fn is_any(one: &[Change], two: &[Change]) -> bool
     ensures some { OnTrue result ((0 < length one.now) ⊎ (0 < length two.now)) }
     ensures none { OnFalse result ((length one.now ≡ 0) × (length two.now ≡ 0)) }
 {
     !one.is_empty() || !two.is_empty()
 }
 
-// After a joining step the parts that were evaluated stay marked: their members need not rest.
-fn mark_again(joining: bool, done: &[usize], agenda: &mut Agenda)
+/// After a joining step the parts that were evaluated stay marked: their members need not rest.
+pub fn mark_again(joining: bool, done: &[usize], agenda: &mut Agenda)
     requires { (k : ℕ) → Contains done.now k → k < length agenda.old.marks }
     ensures marks { MarksAll (λ k. (joining ≡ true) × Contains done.now k) agenda.old.marks agenda.new.marks }
     ensures waiting { agenda.new.waiting ≡ agenda.old.waiting }

@@ -16,3 +16,5 @@ pub mod LastingRoused
 pub mod DueLemmas
 pub mod WakingLemmas
 pub mod FinishingOrder
+pub mod RestartingLemmas
+pub mod BesideLemmas

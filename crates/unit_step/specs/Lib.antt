@@ -4,3 +4,5 @@ pub mod Bodies
 pub mod Waking
 pub mod Listing
 pub mod Holding
+pub mod Restarting
+pub mod Beside

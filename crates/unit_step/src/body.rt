@@ -145,6 +145,7 @@ impl Body {
 
     // The groups of the parts that wait, but for these, anew, under the present state, unless each of them is stepped by
     // vicinities already.
+    #[inline(never)]
     pub(crate) fn holding(
         &self,
         graph: &Graph,

@@ -175,6 +175,7 @@ impl Machine {
     }
 
     // What is found of the groups that are due and have a text.
+    #[inline(never)]
     fn waking(&self, graph: &Graph, sizes: &GroupSizes) -> Result<Waking, BuildFault>
         requires covers { Covers graph.now self.now }
         requires due { (large : ℕ) × AreDue graph.now self.now large sizes.now }
@@ -197,6 +198,7 @@ impl Machine {
     }
 
     // What the parts become whose groups are due and have a text, which is kept.
+    #[inline(never)]
     fn risen(&self, graph: &Graph, waking: Waking, kept: &Kept) -> Result<Risen, NoMemory>
         requires covers { Covers graph.now self.now }
         requires waking { IsWaking graph.now self.now waking }
@@ -225,6 +227,7 @@ impl Machine {
     }
 
     // Puts these parts in their slots. Those of them that have no code go on waiting.
+    #[inline(never)]
     fn rouse(&mut self, graph: &Graph, risen: Risen) -> Result<(), NoMemory>
         requires covers { Covers graph.now self.old }
         requires risen { IsRisen graph.now self.old risen }

@@ -23,6 +23,7 @@
 //! 1987.
 #![tactic(auto)]
 
+mod beside;
 mod body;
 mod editing;
 mod finishing;
@@ -34,6 +35,7 @@ mod listing;
 mod long;
 mod machine;
 mod planning;
+mod restarting;
 mod rousing;
 mod seating;
 mod waking;

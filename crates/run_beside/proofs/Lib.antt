@@ -1,0 +1,10 @@
+pub mod AgreeingGroups
+pub mod RestingRuns
+pub mod DifferenceSteps
+pub mod BesideRuns
+pub mod WritingLemmas
+pub mod SettlingRuns
+pub mod NoticingLemmas
+pub mod KeepingApart
+pub mod AdvancingLemmas
+pub mod CountedReplacements

@@ -1,0 +1,243 @@
+-- What is noticed of some parts and then of others.
+use Rattle.std.proofs.Common.{◌≡◌, ◌≢◌, ℕ, ◌+◌, ◌<◌, inl, inr, ◌⊎◌, Bool, true, List, [], ◌∷◌, ◌++◌, length, take, get_or, refl, sym, ap, subst, ◌∙◌, arith}
+use Rattle.std.specs.Prelude.{Contains, Option, None, Some, slice_set, slice_index_or}
+use Rattle.std.proofs.lemmas.List.{length-set, take_more}
+use Rattle.std.proofs.lemmas.List.Elements.{Contains-push, Contains-push_cases, Contains-append_left, Contains-append_right, Contains-append_cases}
+use Rattle.smallvec.specs.SmallVec.{SmallVec}
+use Rattle.ternary.specs.declared.tern.Tern.{Tern}
+use Rattle.path_meaning.specs.Switching.{state_at}
+use Rattle.part_words.specs.declared.change.Change.{Change}
+use Rattle.machine_parts.specs.Marking.{IsMarked}
+use Rattle.machine_parts.specs.Readers.{readers_of}
+use Rattle.machine_parts.proofs.SetMarks.{marked-set, marked-stays, marked-set_cases}
+use Rattle.run_beside.specs.Noticing.{IsConcerned, ConcernsDiffering, Notices, NoticesChanges}
+
+-- some parts and then others
+pub Notices-then : (Enters Wakes EntersToo WakesToo : ℕ → Type 0) (a b c l m n : List Bool) → Notices Enters Wakes a b l m → Notices EntersToo WakesToo b c m n →
+    Notices (λ k. Enters k ⊎ EntersToo k) (λ k. Wakes k ⊎ WakesToo k) a c l n
+Notices-then Enters Wakes EntersToo WakesToo a b c l m n first then = record {
+  apart = record {
+    count = then.apart.count ∙ first.apart.count;
+    stays = λ k was. then.apart.stays k (first.apart.stays k was);
+    set = λ k this. elim this [ inl one ↦ then.apart.stays k (first.apart.set k one) | inr two ↦ then.apart.set k two ];
+    only = λ k is. elim (then.apart.only k is) [
+      | inl before ↦ elim (first.apart.only k before) [ inl was ↦ inl was | inr one ↦ inr (inl one) ]
+      | inr two ↦ inr (inr two)
+    ];
+  };
+  count = then.count ∙ first.count;
+  stays = λ k was. then.stays k (first.stays k was);
+  entered = entered;
+  wakes = λ k this is. elim this [
+    | inl one ↦ elim (then.entered k is) [ inl before ↦ then.stays k (first.wakes k one before) | inr marked ↦ marked ]
+    | inr two ↦ then.wakes k two is
+  ];
+  only = λ k marked. elim (then.only k marked) [
+    | inl before ↦ elim (first.only k before) [ inl was ↦ inl was | inr is ↦ inr (then.apart.stays k is) ]
+    | inr is ↦ inr is
+  ];
+}
+  where
+    entered : (k : ℕ) → IsMarked c k → IsMarked a k ⊎ IsMarked n k
+    entered k is =
+        elim (then.entered k is) [
+          | inl before ↦ elim (first.entered k before) [ inl was ↦ inl was | inr marked ↦ inr (then.stays k marked) ]
+          | inr marked ↦ inr marked
+        ]
+
+-- the same parts, said otherwise; fewer wake
+pub Notices-as : (Enters Wakes EntersToo WakesToo : ℕ → Type 0) (a b m n : List Bool) → ((k : ℕ) → Enters k → EntersToo k) → ((k : ℕ) → EntersToo k → Enters k) →
+    ((k : ℕ) → WakesToo k → Wakes k) → Notices Enters Wakes a b m n → Notices EntersToo WakesToo a b m n
+Notices-as Enters Wakes EntersToo WakesToo a b m n to from fewer notices = record {
+  apart = record {
+    count = notices.apart.count;
+    stays = notices.apart.stays;
+    set = λ k this. notices.apart.set k (from k this);
+    only = λ k is. elim (notices.apart.only k is) [ inl was ↦ inl was | inr this ↦ inr (to k this) ];
+  };
+  count = notices.count;
+  stays = notices.stays;
+  entered = notices.entered;
+  wakes = λ k this. notices.wakes k (fewer k this);
+  only = notices.only;
+}
+
+-- none
+pub Notices-none : (Enters Wakes : ℕ → Type 0) (apart marks : List Bool) → ((k : ℕ) → ¬ Enters k) → ((k : ℕ) → ¬ Wakes k) → Notices Enters Wakes apart apart marks marks
+Notices-none Enters Wakes apart marks none_enters none_wakes = record {
+  apart = record {
+    count = refl;
+    stays = λ k was. was;
+    set = λ k this. absurd (none_enters k this);
+    only = λ k is. inl is;
+  };
+  count = refl;
+  stays = λ k was. was;
+  entered = λ k is. inl is;
+  wakes = λ k this. absurd (none_wakes k this);
+  only = λ k marked. inl marked;
+}
+
+-- a part is put apart and marked
+pub Notices-one : (Enters Wakes : ℕ → Type 0) (apart marks : List Bool) (k : ℕ) → k < length apart → k < length marks → ((j : ℕ) → Enters j → j ≡ k) →
+    Enters k → ((j : ℕ) → Wakes j → j ≡ k) → Notices Enters Wakes apart (slice_set apart k true) marks (slice_set marks k true)
+Notices-one Enters Wakes apart marks k inside within enters_one enters wakes_one = record {
+  apart = record {
+    count = length-set apart k true;
+    stays = λ j was. marked-stays apart k j was;
+    set = λ j this. subst (IsMarked (slice_set apart k true)) (sym (enters_one j this)) (marked-set apart k inside);
+    only = λ j is. elim (marked-set_cases apart k j is) [ inl was ↦ inl was | inr same ↦ inr (subst Enters (sym same) enters) ];
+  };
+  count = length-set marks k true;
+  stays = λ j was. marked-stays marks k j was;
+  entered = λ j is. elim (marked-set_cases apart k j is) [
+    | inl was ↦ inl was
+    | inr same ↦ inr (subst (IsMarked (slice_set marks k true)) (sym same) (marked-set marks k within))
+  ];
+  wakes = λ j this is. subst (IsMarked (slice_set marks k true)) (sym (wakes_one j this)) (marked-set marks k within);
+  only = λ j marked. elim (marked-set_cases marks k j marked) [
+    | inl was ↦ inl was
+    | inr same ↦ inr (subst (IsMarked (slice_set apart k true)) (sym same) (marked-set apart k inside))
+  ];
+}
+
+-- a part that is apart is marked
+pub Notices-woken : (Enters Wakes : ℕ → Type 0) (apart marks : List Bool) (k : ℕ) → k < length marks → IsMarked apart k → ((j : ℕ) → ¬ Enters j) →
+    ((j : ℕ) → Wakes j → j ≡ k) → Notices Enters Wakes apart apart marks (slice_set marks k true)
+Notices-woken Enters Wakes apart marks k within is_apart none_enters wakes_one = record {
+  apart = record {
+    count = refl;
+    stays = λ j was. was;
+    set = λ j this. absurd (none_enters j this);
+    only = λ j is. inl is;
+  };
+  count = length-set marks k true;
+  stays = λ j was. marked-stays marks k j was;
+  entered = λ j is. inl is;
+  wakes = λ j this is. subst (IsMarked (slice_set marks k true)) (sym (wakes_one j this)) (marked-set marks k within);
+  only = λ j marked. elim (marked-set_cases marks k j marked) [
+    | inl was ↦ inl was
+    | inr same ↦ inr (subst (IsMarked apart) (sym same) is_apart)
+  ];
+}
+
+-- none is apart that wakes
+pub Notices-asleep : (Enters Wakes : ℕ → Type 0) (apart marks : List Bool) → ((j : ℕ) → ¬ Enters j) → ((j : ℕ) → Wakes j → ¬ IsMarked apart j) →
+    Notices Enters Wakes apart apart marks marks
+Notices-asleep Enters Wakes apart marks none_enters none_apart = record {
+  apart = record {
+    count = refl;
+    stays = λ j was. was;
+    set = λ j this. absurd (none_enters j this);
+    only = λ j is. inl is;
+  };
+  count = refl;
+  stays = λ j was. was;
+  entered = λ j is. inl is;
+  wakes = λ j this is. absurd (none_apart j this is);
+  only = λ j marked. inl marked;
+}
+
+-- one part more of a list that enters
+pub Notices-entered : (parts : List ℕ) (i k : ℕ) (a b c l m n : List Bool) → i < length parts → k ≡ get_or parts i k →
+    Notices (Contains (take i parts)) (Contains (take i parts)) a b l m → Notices (λ j. j ≡ k) (λ j. j ≡ k) b c m n →
+    Notices (Contains (take (i + 1) parts)) (Contains (take (i + 1) parts)) a c l n
+Notices-entered parts i k a b c l m n inside is so_far one =
+    let more : take (i + 1) parts ≡ take i parts ++ k ∷ [] = take_more parts i k inside ∙ ap (λ x. take i parts ++ x ∷ []) (sym is) in
+    subst (λ xs. Notices (Contains xs) (Contains xs) a c l n) (sym more)
+    (Notices-as _ _ _ _ a c l n
+    (λ j this. elim this [
+      | inl before ↦ Contains-append_left (take i parts) (k ∷ []) j before
+      | inr same ↦ subst (Contains (take i parts ++ k ∷ [])) (sym same) (Contains-push (take i parts) k)
+    ])
+    (λ j this. last_or_before j this)
+    (λ j this. last_or_before j this)
+    (Notices-then (Contains (take i parts)) (Contains (take i parts)) (λ j. j ≡ k) (λ j. j ≡ k) a b c l m n so_far one))
+  where
+    last_or_before : (j : ℕ) → Contains (take i parts ++ k ∷ []) j → Contains (take i parts) j ⊎ (j ≡ k)
+    last_or_before j this = elim (Contains-push_cases (take i parts) k j this) [ inl before ↦ inl before | inr same ↦ inr (sym same) ]
+
+-- and of one that wakes
+pub Notices-awake : (parts : List ℕ) (i k : ℕ) (a l m n : List Bool) → i < length parts → k ≡ get_or parts i k →
+    Notices (λ j. ⊥) (Contains (take i parts)) a a l m → Notices (λ j. ⊥) (λ j. j ≡ k) a a m n →
+    Notices (λ j. ⊥) (Contains (take (i + 1) parts)) a a l n
+Notices-awake parts i k a l m n inside is so_far one =
+    let more : take (i + 1) parts ≡ take i parts ++ k ∷ [] = take_more parts i k inside ∙ ap (λ x. take i parts ++ x ∷ []) (sym is) in
+    subst (λ xs. Notices (λ j. ⊥) (Contains xs) a a l n) (sym more)
+    (Notices-as _ _ _ _ a a l n
+    (λ j this. elim this [ inl none ↦ none | inr none ↦ none ])
+    (λ j none. absurd none)
+    (λ j this. elim (Contains-push_cases (take i parts) k j this) [ inl before ↦ inl before | inr same ↦ inr (sym same) ])
+    (Notices-then (λ j. ⊥) (Contains (take i parts)) (λ j. ⊥) (λ j. j ≡ k) a a a l m n so_far one))
+
+-- the owner and the readers of a node
+pub Notices-node : (owners : List (Option ℕ)) (readers : List (SmallVec ℕ)) (node : ℕ) (owner : Option ℕ) (parts : List ℕ) (a b c l m n : List Bool) →
+    owner ≡ slice_index_or owners node None → parts ≡ readers_of readers node → Notices (λ k. owner ≡ Some k) (λ k. ⊥) a b l m →
+    Notices (Contains parts) (Contains parts) b c m n → Notices (IsConcerned owners readers node) (Contains (readers_of readers node)) a c l n
+Notices-node owners readers node owner parts a b c l m n owner_is parts_are first then =
+    Notices-as _ _ _ _ a c l n
+    (λ k this. elim this [ inl own ↦ inl (sym owner_is ∙ own) | inr reads ↦ inr (subst (λ xs. Contains xs k) parts_are reads) ])
+    (λ k this. elim this [ inl own ↦ inl (owner_is ∙ own) | inr reads ↦ inr (subst (λ xs. Contains xs k) (sym parts_are) reads) ])
+    (λ k this. inr (subst (λ xs. Contains xs k) (sym parts_are) this))
+    (Notices-then _ _ _ _ a b c l m n first then)
+
+-- a node that differs puts them apart
+pub Notices-differing : (owners : List (Option ℕ)) (readers : List (SmallVec ℕ)) (good bad : List Tern) (node : ℕ) (a b m n : List Bool) →
+    state_at bad node ≢ state_at good node → Notices (IsConcerned owners readers node) (Contains (readers_of readers node)) a b m n →
+    Notices (ConcernsDiffering owners readers good bad node) (Contains (readers_of readers node)) a b m n
+Notices-differing owners readers good bad node a b m n differs notices =
+    Notices-as _ _ _ _ a b m n (λ k this. (differs, this)) (λ k this. this.1) (λ k this. this) notices
+
+-- and one that doesn't wakes its readers alone
+pub Notices-agreeing : (owners : List (Option ℕ)) (readers : List (SmallVec ℕ)) (good bad : List Tern) (node : ℕ) (parts : List ℕ) (a m n : List Bool) →
+    state_at bad node ≡ state_at good node → parts ≡ readers_of readers node → Notices (λ k. ⊥) (Contains parts) a a m n →
+    Notices (ConcernsDiffering owners readers good bad node) (Contains (readers_of readers node)) a a m n
+Notices-agreeing owners readers good bad node parts a m n same parts_are notices =
+    Notices-as _ _ _ _ a a m n (λ k none. absurd none) (λ k this. absurd (this.0 same)) (λ k this. subst (λ xs. Contains xs k) (sym parts_are) this) notices
+
+-- the changes of two lists
+pub NoticesChanges-then : (xs ys : List Change) (owners : List (Option ℕ)) (readers : List (SmallVec ℕ)) (good bad : List Tern) (a b c l m n : List Bool) →
+    NoticesChanges xs owners readers good bad a b l m → NoticesChanges ys owners readers good bad b c m n →
+    NoticesChanges (xs ++ ys) owners readers good bad a c l n
+NoticesChanges-then xs ys owners readers good bad a b c l m n first then =
+    Notices-as _ _ _ _ a c l n
+    (λ k this. elim this [
+      | inl one ↦ record { change = one.change; there = Contains-append_left xs ys one.change one.there; differs = one.differs; concerns = one.concerns }
+      | inr two ↦ record { change = two.change; there = Contains-append_right xs ys two.change two.there; differs = two.differs; concerns = two.concerns }
+    ])
+    (λ k this. elim (Contains-append_cases xs ys this.change this.there) [
+      | inl there ↦ inl (record { change = this.change; there = there; differs = this.differs; concerns = this.concerns })
+      | inr there ↦ inr (record { change = this.change; there = there; differs = this.differs; concerns = this.concerns })
+    ])
+    (λ k this. elim (Contains-append_cases xs ys this.change this.changes_it) [
+      | inl there ↦ inl (record { change = this.change; changes_it = there; reads = this.reads })
+      | inr there ↦ inr (record { change = this.change; changes_it = there; reads = this.reads })
+    ])
+    (Notices-then _ _ _ _ a b c l m n first then)
+
+-- one change
+single : (change other : Change) → Contains (change ∷ []) other → other ≡ change
+single change other there =
+    elim (Contains-push_cases [] change other there) [ inl before ↦ absurd (omega (arith, before.1)) | inr same ↦ sym same ]
+
+NoticesChanges-one : (change : Change) (owners : List (Option ℕ)) (readers : List (SmallVec ℕ)) (good bad : List Tern) (a b m n : List Bool) →
+    Notices (ConcernsDiffering owners readers good bad change.node) (Contains (readers_of readers change.node)) a b m n →
+    NoticesChanges (change ∷ []) owners readers good bad a b m n
+NoticesChanges-one change owners readers good bad a b m n one =
+    Notices-as _ _ _ _ a b m n
+    (λ k this. record { change = change; there = Contains-push [] change; differs = this.0; concerns = this.1 })
+    (λ k this. subst (λ (x : Change). ConcernsDiffering owners readers good bad x.node k) (single change this.change this.there) (this.differs, this.concerns))
+    (λ k this. subst (λ (x : Change). Contains (readers_of readers x.node) k) (single change this.change this.changes_it) this.reads)
+    one
+
+-- and one more behind others
+pub NoticesChanges-more : (changes : List Change) (i : ℕ) (change : Change) (owners : List (Option ℕ)) (readers : List (SmallVec ℕ)) (good bad : List Tern)
+    (a b c l m n : List Bool) → i < length changes → change ≡ get_or changes i change →
+    NoticesChanges (take i changes) owners readers good bad a b l m →
+    Notices (ConcernsDiffering owners readers good bad change.node) (Contains (readers_of readers change.node)) b c m n →
+    NoticesChanges (take (i + 1) changes) owners readers good bad a c l n
+NoticesChanges-more changes i change owners readers good bad a b c l m n inside is so_far one =
+    let more : take (i + 1) changes ≡ take i changes ++ change ∷ [] = take_more changes i change inside ∙ ap (λ x. take i changes ++ x ∷ []) (sym is) in
+    subst (λ xs. NoticesChanges xs owners readers good bad a c l n) (sym more)
+    (NoticesChanges-then (take i changes) (change ∷ []) owners readers good bad a b c l m n so_far
+    (NoticesChanges-one change owners readers good bad b c m n one))
