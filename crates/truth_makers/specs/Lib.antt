@@ -1,3 +1,4 @@
 pub mod Columns
 pub mod Valuations
+pub mod Makers
 pub mod Expecting

@@ -1,7 +1,8 @@
 //! Where a node isn't as it is expected to be.
-ghost use Rattle.std.specs.Prelude.{◌<◌, length, IfOk};
+ghost use Rattle.std.specs.Prelude.{◌≡◌, ◌<◌, ◌≤◌, length, IfErr, IfOk};
 ghost use Rattle.decision_graph.specs.Vertices.{Extends};
 ghost use Rattle.decision_graph.specs.Graphs.{SameShape};
+ghost use Rattle.decision_graph.specs.declared.graph.GraphFault.TheVariants as fault;
 ghost use Rattle.truth_makers.specs.Expecting.{IsMissed};
 
 use crate::Symbols;
@@ -20,6 +21,7 @@ impl Symbols {
         requires wanted { wanted.place < length self.old.graph.vertices }
         ensures shape { SameShape self.old.graph self.new.graph }
         ensures extends { Extends self.old.graph.vertices self.new.graph.vertices }
+        ensures full { IfErr result (λ why. why ≡ fault.Full → self.new.graph.most ≤ length self.new.graph.vertices) }
         ensures inside { IfOk result (λ r. r.place < length self.new.graph.vertices) }
         ensures missed { IfOk result (λ r. IsMissed self.old.graph.vertices self.new.graph.vertices hi.place lo.place wanted.place r.place) }
     {

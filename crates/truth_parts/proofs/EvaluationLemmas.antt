@@ -1,0 +1,219 @@
+-- What the evaluation of parts notes in each column: of one part, and part by part.
+use Rattle.std.proofs.Common.{◌≡◌, ℕ, ◌+◌, ◌<◌, ◌≤◌, Bool, false, inl, inr, List, [], ◌∷◌, ◌++◌, length, map, All, Some, None, Global, Vec, vec_len, refl, sym, ap, subst, ◌∙◌, arith}
+use Rattle.std.specs.Prelude.{Contains, slice_index, slice_set, vec_capacity}
+use Rattle.std.specs.declared.rc.Rc.{Rc}
+use Rattle.std.proofs.lemmas.List.{length-set}
+use Rattle.std.proofs.lemmas.List.Elements.{Contains-push, Contains-push_cases, Contains-append_left}
+use Rattle.ternary.specs.declared.tern.Tern.{Tern}
+use Rattle.ternary.specs.Tern.{may_one, may_zero}
+use Rattle.ternary.proofs.TernLemmas.{same_rails}
+use Rattle.path_meaning.specs.Switching.{state_at}
+use Rattle.straight_code.specs.Code.{CodeData, code_value}
+use Rattle.part_words.specs.Noting.{after}
+use Rattle.machine_parts.specs.declared.part.HeldPart.{HeldPart}
+use Rattle.machine_parts.specs.Parts.{Stands, IsMemberAt}
+use Rattle.machine_parts.specs.Marking.{IsMarked, count_marked}
+use Rattle.machine_parts.specs.Stepping.{Gives}
+use Rattle.machine_parts.proofs.PartLemmas.{same_part}
+use Rattle.machine_parts.proofs.MarkLemmas.{count_marked-cleared}
+use Rattle.machine_parts.proofs.SetMarks.{marked-cleared_was, marked-cleared_cases}
+use Rattle.truth_columns.specs.Columns.{HasColumn}
+use Rattle.truth_columns.proofs.ColumnLemmas.{high_rail, low_rail}
+use Rattle.truth_parts.specs.declared.desk.TruthChange.{TruthChange}
+use Rattle.truth_parts.specs.declared.desk.Desk.{Desk}
+use Rattle.truth_parts.specs.Columns.{rail_in, IsColumn}
+use Rattle.truth_parts.specs.Noting.{after_rail, Notes}
+use Rattle.truth_parts.specs.Evaluating.{rooms, AreTaken, Evaluated, NotesAll, Reports}
+use Rattle.truth_parts.proofs.NotingLemmas.{after-one, after-zero}
+
+-- ---- one part
+
+module _ {A : Type 0} (joining : Bool) (parts : List HeldPart) (columns : ℕ) (holds : A → ℕ → Bool) (hi lo : List A) (even : length lo ≡ length hi) (k : ℕ)
+    (part : HeldPart) (code : Rc CodeData Global) (stands : Stands parts k part) (has_code : part.code ≡ Some code)
+    (front : part.members ≤ length part.map.items) (below : All (λ node. node < length hi) part.map.items) (ones others : List A)
+    (highs : length ones ≡ part.members) (lows : length others ≡ length ones)
+    (given : (column : ℕ) (state : List Tern) → column < columns → HasColumn holds column hi lo state →
+    HasColumn holds column ones others (code_value code.value (map (state_at state) part.map.items))) where
+  module _ (column : ℕ) (state : List Tern) (col : IsColumn columns holds hi lo column state) where
+    abbrev values : List Tern
+    values = code_value code.value (map (state_at state) part.map.items)
+
+    -- the rails that are given to the node at a place of the map
+    one_given : (place : ℕ) → place < length ones → rail_in holds column ones place ≡ may_one (state_at values place)
+    one_given place inside = high_rail holds column ones others values (given column state col.inside col.has) place inside
+
+    zero_given : (place : ℕ) → place < length ones → rail_in holds column others place ≡ may_zero (state_at values place)
+    zero_given place inside = low_rail holds column ones others values (given column state col.inside col.has) place (omega (arith, inside, lows))
+
+    one_now : (node : ℕ) → node < length hi → rail_in holds column hi node ≡ may_one (state_at state node)
+    one_now node within = high_rail holds column hi lo state col.has node within
+
+    zero_now : (node : ℕ) → node < length hi → rail_in holds column lo node ≡ may_zero (state_at state node)
+    zero_now node within = low_rail holds column hi lo state col.has node (omega (arith, within, even))
+
+    -- and those that it has after the step
+    one_after : (place node : ℕ) → place < length ones → node < length hi →
+        after_rail joining (rail_in holds column hi node) (rail_in holds column ones place) ≡ may_one (after joining (state_at state node) (state_at values place))
+    one_after place node inside within = after-one joining _ _ (state_at state node) (state_at values place) (one_now node within) (one_given place inside)
+
+    zero_after : (place node : ℕ) → place < length ones → node < length hi →
+        after_rail joining (rail_in holds column lo node) (rail_in holds column others place) ≡ may_zero (after joining (state_at state node) (state_at values place))
+    zero_after place node inside within = after-zero joining _ _ (state_at state node) (state_at values place) (zero_now node within) (zero_given place inside)
+
+    -- what the part gives to a node is given at a place of its map
+    given_at : (node : ℕ) (value : Tern) → Gives parts state k node value →
+        (place : ℕ) × (place < length ones) × (slice_index part.map.items place ≡ node) × (value ≡ state_at values place)
+    given_at node value gives =
+        let same = same_part parts k gives.part part gives.stands stands in
+        let codes : gives.code ≡ code = cc (ap (λ p. p.code) same) in
+        let member = subst (λ p. IsMemberAt p gives.place node) same gives.member in
+        let value_is : value ≡ state_at values gives.place =
+        gives.value_is
+        ∙ (ap (λ p. state_at (code_value gives.code.value (map (state_at state) p.map.items)) gives.place) same
+        ∙ ap (λ shared. state_at (code_value shared.value (map (state_at state) part.map.items)) gives.place) codes) in
+        (gives.place, omega (arith, member.inside, highs), member.here, value_is)
+
+  -- the changes that are noted by what the code of a part gives are those that the part makes
+  pub Reports-from_Notes : (old new : List (TruthChange A)) → Notes joining columns holds part.map.items hi lo ones others (length ones) old new →
+      Reports joining parts columns holds hi lo k old new
+  Reports-from_Notes old new notes = record {
+    kept = notes.kept;
+    noted = λ column state col node value gives.
+        let (place, inside, here, value_is) = given_at column state col node value gives in
+        elim (notes.noted place inside) [
+          | inl has ↦ inl (record { change = has.change; there = has.there; of_node = has.of_node ∙ here })
+          | inr idle ↦
+              let at : ℕ = slice_index part.map.items place in
+              let within : at < length hi = below place 0 (omega (arith, inside, highs, front)) in
+              let stays : after joining (state_at state at) (state_at (values column state col) place) ≡ state_at state at =
+              same_rails _ _
+              (sym (one_after column state col place at inside within) ∙ (idle.high column col.inside ∙ one_now column state col at within))
+              (sym (zero_after column state col place at inside within) ∙ (idle.low column col.inside ∙ zero_now column state col at within)) in
+              inr (subst (λ n. after joining (state_at state n) value ≡ state_at state n) here (ap (after joining (state_at state at)) value_is ∙ stays))
+        ];
+    only = λ change there.
+        elim (notes.only change there) [
+          | inl was ↦ inl was
+          | inr noted ↦
+              let within : change.node < length hi = subst (λ n. n < length hi) noted.node (below noted.place 0 (omega (arith, noted.inside, highs, front))) in
+              inr (record {
+                inside = within;
+                next = λ column state col. record {
+                  given = state_at (values column state col) noted.place;
+                  gives = record {
+                    part = part;
+                    stands = stands;
+                    code = code;
+                    has = has_code;
+                    place = noted.place;
+                    member = record { inside = omega (arith, noted.inside, highs); within = omega (arith, noted.inside, highs, front); here = noted.node };
+                    value_is = refl;
+                  };
+                  one = noted.next.high column col.inside ∙ one_after column state col noted.place change.node noted.inside within;
+                  zero = noted.next.low column col.inside ∙ zero_after column state col noted.place change.node noted.inside within;
+                };
+                differs = noted.differs;
+              })
+        ];
+  }
+
+-- a part without code makes no change
+pub Reports-none : {A : Type 0} → (joining : Bool) (parts : List HeldPart) (columns : ℕ) (holds : A → ℕ → Bool) (hi lo : List A) (k : ℕ) (part : HeldPart) →
+    Stands parts k part → part.code ≡ None → (old : List (TruthChange A)) → Reports joining parts columns holds hi lo k old old
+Reports-none joining parts columns holds hi lo k part stands none old = record {
+  kept = λ change there. there;
+  noted = λ column state col node value gives.
+      let same = same_part parts k gives.part part gives.stands stands in
+      absurd (cc (ap (λ p. p.code) same, gives.has));
+  only = λ change there. inl there;
+}
+
+-- ---- part by part
+
+-- what is noted of a part stays noted
+NotesAll-more : {A : Type 0} → (joining : Bool) (parts : List HeldPart) (columns : ℕ) (holds : A → ℕ → Bool) (hi lo : List A) (k : ℕ) (changes more : List (TruthChange A)) →
+    ((change : TruthChange A) → Contains changes change → Contains more change) → NotesAll joining parts columns holds hi lo k changes →
+    NotesAll joining parts columns holds hi lo k more
+NotesAll-more joining parts columns holds hi lo k changes more kept notes column state col node value gives =
+    elim (notes column state col node value gives) [
+      | inl has ↦ inl (record { change = has.change; there = kept has.change has.there; of_node = has.of_node })
+      | inr stays ↦ inr stays
+    ]
+
+-- one part more was evaluated
+pub Evaluated-more : {A : Type 0} → (joining : Bool) (parts : List HeldPart) (columns : ℕ) (holds : A → ℕ → Bool) (hi lo : List A)
+    (changes more : List (TruthChange A)) (done : List ℕ) (k : ℕ) → Reports joining parts columns holds hi lo k changes more →
+    Evaluated joining parts columns holds hi lo changes done → Evaluated joining parts columns holds hi lo more (done ++ k ∷ [])
+Evaluated-more joining parts columns holds hi lo changes more done k reports evaluated = record {
+  noted = λ l there.
+      elim (Contains-push_cases done k l there) [
+        | inl earlier ↦ NotesAll-more joining parts columns holds hi lo l changes more reports.kept (evaluated.noted l earlier)
+        | inr same ↦ subst (λ n. NotesAll joining parts columns holds hi lo n more) same reports.noted
+      ];
+  only = λ change there.
+      elim (reports.only change there) [
+        | inl earlier ↦
+            let (l, contained, is) = evaluated.only change earlier in
+            (l, Contains-append_left done (k ∷ []) l contained, is)
+        | inr is ↦ (k, Contains-push done k, is)
+      ];
+}
+
+-- nothing was evaluated yet
+pub Evaluated-none : {A : Type 0} → (joining : Bool) (parts : List HeldPart) (columns : ℕ) (holds : A → ℕ → Bool) (hi lo : List A) →
+    Evaluated joining parts columns holds hi lo [] []
+Evaluated-none joining parts columns holds hi lo = record {
+  noted = λ k (i, inside, here). absurd (omega (arith, inside));
+  only = λ change (i, inside, here). absurd (omega (arith, inside));
+}
+
+-- ---- marks that are taken
+
+-- one part more was taken
+pub AreTaken-more : (before marks : List Bool) (done : List ℕ) (k : ℕ) → IsMarked marks k → AreTaken before marks done →
+    AreTaken before (slice_set marks k false) (done ++ k ∷ [])
+AreTaken-more before marks done k marked taken = record {
+  count = length-set marks k false ∙ taken.count;
+  fewer = λ l now. taken.fewer l (marked-cleared_was marks k l now);
+  marked = λ l there.
+      elim (Contains-push_cases done k l there) [
+        | inl earlier ↦ taken.marked l earlier
+        | inr same ↦ subst (IsMarked before) same (taken.fewer k marked)
+      ];
+  popped = λ l was.
+      elim (taken.popped l was) [
+        | inl still ↦
+            elim (marked-cleared_cases marks k l still) [
+              | inl now ↦ inl now
+              | inr same ↦ inr (subst (Contains (done ++ k ∷ [])) (sym same) (Contains-push done k))
+            ]
+        | inr earlier ↦ inr (Contains-append_left done (k ∷ []) l earlier)
+      ];
+}
+
+-- none was taken yet
+pub AreTaken-none : (before : List Bool) → AreTaken before before []
+AreTaken-none before = record {
+  count = refl;
+  fewer = λ k now. now;
+  marked = λ k (i, inside, here). absurd (omega (arith, inside));
+  popped = λ k was. inl was;
+}
+
+-- ---- room
+
+-- clearing the lists of a step keeps their room
+pub cleared_rooms : {A : Type 0} → (desk : Desk A) (changes : Vec (TruthChange A) Global) (done : Vec ℕ Global) → vec_capacity changes ≡ vec_capacity desk.changes →
+    vec_capacity done ≡ vec_capacity desk.done → rooms (record desk { changes = changes; done = done }) ≡ rooms desk
+cleared_rooms desk changes done changes_same done_same = λ i. record {
+  values = length desk.values.items;
+  outs = length desk.out_hi.items;
+  changes = changes_same i;
+  parts = done_same i;
+}
+
+-- there is room still for the parts that are marked, once one of them is taken
+pub done_room-more : (marks : List Bool) (k : ℕ) (old new : Vec ℕ Global) → IsMarked marks k → vec_len old + count_marked marks ≤ vec_capacity old →
+    vec_len new ≡ vec_len old + 1 → vec_capacity new ≡ vec_capacity old → vec_len new + count_marked (slice_set marks k false) ≤ vec_capacity new
+done_room-more marks k old new marked room longer capacity =
+    omega (arith, count_marked-cleared marks k marked, room, longer, capacity)

@@ -1,0 +1,5 @@
+pub mod Columns
+pub mod Noting
+pub mod Evaluating
+pub mod Stepping
+pub mod Fitting

@@ -1,0 +1,75 @@
+//! One step of all columns: all marked parts are evaluated on the old rails, and then the changes are taken over.
+ghost use Rattle.std.specs.Prelude.{◌≡◌, ℕ, ◌<◌, Bool, true, List, length, All, Contains, IfOk, OnErr};
+ghost use Rattle.truth_columns.specs.Columns.{AreKept};
+ghost use Rattle.machine_parts.specs.Marking.{MarksAll};
+ghost use Rattle.truth_parts.specs.Evaluating.{rooms, AreTaken, IsDesk};
+ghost use Rattle.truth_parts.specs.Stepping.{IsRunnable, StepsInAll};
+
+use crate::desk::Desk;
+use crate::evaluation::evaluate_all;
+use crate::taking::take_over;
+use machine_parts::HeldPart;
+use part_lists::{Agenda, mark_all};
+use truth_columns::Truths;
+
+/// Takes a step of all columns, plain or joining, and answers whether it changes some column.
+///
+/// Its work is that of the marked parts, and of the parts that read a node that changes. If the maker runs out, it tells
+/// why, and all rails and marks are as before.
+pub fn advance<T: Truths>(
+    joining: bool,
+    truths: &mut T,
+    parts: &[HeldPart],
+    readers: &[Vec<usize>],
+    hi: &mut [T::Truth],
+    lo: &mut [T::Truth],
+    agenda: &mut Agenda,
+    desk: &mut Desk<T::Truth>,
+) -> Result<bool, T::Fault>
+    requires rails { length lo.old ≡ length hi.old }
+    requires highs { All (T.has truths.old) hi.old }
+    requires lows { All (T.has truths.old) lo.old }
+    requires runnable { IsRunnable parts.now agenda.old (length hi.old) readers.now (rooms desk.old) }
+    requires desk { IsDesk (T.has truths.old) desk.old }
+    ensures kept { AreKept (T.columns truths.old) (T.has truths.old) (T.holds truths.old) (T.columns truths.new) (T.has truths.new) (T.holds truths.new) }
+    ensures highs { All (T.has truths.new) hi.new }
+    ensures lows { All (T.has truths.new) lo.new }
+    ensures columns { IfOk result (StepsInAll joining parts.now (T.columns truths.new) (T.holds truths.new) agenda.old agenda.new hi.old lo.old hi.new lo.new) }
+    ensures err_highs { OnErr result (hi.new ≡ hi.old) }
+    ensures err_lows { OnErr result (lo.new ≡ lo.old) }
+    ensures err_marks { OnErr result (agenda.new ≡ agenda.old) }
+    ensures rooms { rooms desk.new ≡ rooms desk.old }
+    ensures desk { IsDesk (T.has truths.new) desk.new }
+{
+    desk.changes.clear();
+    desk.done.clear();
+    match evaluate_all(joining, truths, parts, hi, lo, agenda, desk) {
+        Ok(()) => {
+            mark_again(joining, &desk.done, agenda);
+            take_over(&desk.changes, readers, hi, lo, agenda);
+            Ok(!desk.changes.is_empty())
+        }
+        Err(fault) => {
+            put_back(&desk.done, agenda);
+            Err(fault)
+        }
+    }
+}
+
+/// After a joining step the parts that were evaluated stay marked: their members need not rest.
+pub fn mark_again(joining: bool, done: &[usize], agenda: &mut Agenda)
+    requires { (k : ℕ) → Contains done.now k → k < length agenda.old }
+    ensures { MarksAll (λ k. (joining ≡ true) × Contains done.now k) agenda.old agenda.new }
+{
+    if joining {
+        mark_all(done, agenda);
+    }
+}
+
+// Marks the parts again that were taken, so that all marks are as they were before.
+fn put_back(done: &[usize], agenda: &mut Agenda)
+    requires { (k : ℕ) → Contains done.now k → k < length agenda.old }
+    ensures { (before : List Bool) → AreTaken before agenda.old done.now → agenda.new ≡ before }
+{
+    mark_all(done, agenda);
+}
