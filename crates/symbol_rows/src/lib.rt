@@ -10,6 +10,8 @@ mod columns;
 #[cfg(test)]
 mod graphs;
 #[cfg(test)]
+mod lines;
+#[cfg(test)]
 mod reading;
 #[cfg(test)]
 mod values;
