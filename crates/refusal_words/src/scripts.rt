@@ -107,16 +107,20 @@ fn name_of_sort<'a>(line: &'a [u8], names: Names<'_>, sort: NodeSort) -> &'a [u8
     }
 }
 
-// The first name of a line that stands for such a node, or for a vector.
+// The first name of a line that stands for such a node, or for a vector. The name that `vector` gives stands for nothing yet.
 fn first_of_sort<'a>(line: &'a [u8], names: Names<'_>, sort: NodeSort) -> Option<&'a [u8]> {
     let command = first_word(line);
-    let mut is_first = true;
+    let mut before: u8 = match command {
+        b"vector" => 2,
+        _ => 1,
+    };
     for word in words(line) {
         let name = name_in(command, word);
-        if !is_first && sort_of(names, name) == sort {
+        if before > 0 {
+            before -= 1;
+        } else if sort_of(names, name) == sort {
             return Some(name);
         }
-        is_first = false;
     }
     None
 }
