@@ -1,0 +1,5 @@
+pub mod MovingLemmas
+mod PlacingLemmas
+mod MakingLemmas
+mod MakerLemmas
+mod GearLemmas

@@ -1,0 +1,30 @@
+-- In each column a step is the unit step on a graph that the machine fits.
+use Rattle.std.proofs.Common.{false}
+use Rattle.std.proofs.lemmas.Result.{IfOk-weaker}
+use Rattle.truth_machine.specs.Moving.{Rests, StepsColumns}
+use Rattle.truth_machine.proofs.MovingLemmas.{column-rests, on_fault, IsStep-in_column}
+use Rattle.truth_machine.proofs.machine.TruthMachineColumnStepper.step.Goals as goal
+
+pub returns-clause-step : goal.returns-clause-step
+returns-clause-step g c =
+    IfOk-weaker c.step_on.result (StepsColumns g.T.Truths.columns g.T.Truths.holds false c.args.self.now c.step_on.new.self) _
+    (λ moved steps. λ fits. IsStep-in_column g.T.Truths.columns g.T.Truths.holds _ _ _ c.step_on.ensures.wired moved steps fits) c.step_on.ensures.steps
+
+pub returns-clause-columns : goal.returns-clause-columns
+returns-clause-columns g c = c.step_on.ensures.kept.count
+
+pub returns-clause-moved : goal.returns-clause-moved
+returns-clause-moved g c =
+    IfOk-weaker c.step_on.result (StepsColumns g.T.Truths.columns g.T.Truths.holds false c.args.self.now c.step_on.new.self) _ (λ moved steps. steps.some)
+    c.step_on.ensures.steps
+
+pub returns-clause-rests : goal.returns-clause-rests
+returns-clause-rests g c =
+    IfOk-weaker c.step_on.result (StepsColumns g.T.Truths.columns g.T.Truths.holds false c.args.self.now c.step_on.new.self) _ (λ moved steps. steps.none)
+    c.step_on.ensures.steps
+
+pub returns-clause-err : goal.returns-clause-err
+returns-clause-err g c =
+    let s = c.step_on.ensures in
+    on_fault c.step_on.result (Rests c.args.self.now c.step_on.new.self) _ s.rests
+    (λ rests. column-rests g.T.Truths.columns g.T.Truths.has g.T.Truths.holds c.args.self.now c.step_on.new.self s.kept s.highs s.lows rests)

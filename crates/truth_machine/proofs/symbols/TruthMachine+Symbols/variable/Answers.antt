@@ -1,0 +1,28 @@
+-- The maker made more, and the machine is as before.
+use Rattle.std.proofs.Common.{◌<◌, sym, subst}
+use Rattle.decision_graph.specs.declared.vertex.Function.{Function}
+use Rattle.truth_makers.specs.declared.symbols.Symbols.{Symbols}
+use Rattle.truth_machine.specs.Machines.{TruthData}
+use Rattle.truth_machine.proofs.MakerLemmas.{IsDesk-made, IsTruthMachine-made_more, makes_more}
+use Rattle.truth_machine.proofs.symbols.TruthMachine+Symbols.variable.Goals as goal
+
+pub variable-requires : goal.variable-requires
+variable-requires c = subst (λ (d : TruthData Function Symbols). c.args.number < d.maker.graph.variables) (sym c.self.view_is) c.requires
+
+pub invariant_of-self : goal.invariant_of-self
+invariant_of-self c =
+    let i = c.self.inside in
+    let m = c.self.invariant.0 in
+    let made = c.variable.ensures in (
+      IsTruthMachine-made_more i.truths.graph c.variable.new.self made.shape made.extends i.parts.items i.agenda i.hi.items i.lo.items m.columns m.highs m.lows
+          i.readers.items i.owners.items _ m,
+      IsDesk-made i.truths.graph c.variable.new.self made.shape made.extends i.desk c.self.invariant.1,
+    )
+
+pub returns-clause-makes : goal.returns-clause-makes
+returns-clause-makes c =
+    let i = c.self.inside in
+    let m = c.self.invariant.0 in
+    let made = c.variable.ensures in
+    rw (← c.self.view_is)
+    (makes_more i.truths.graph c.variable.new.self made.shape made.extends i.parts.items i.agenda i.hi.items i.lo.items m.columns m.highs m.lows)

@@ -1,0 +1,4 @@
+pub mod Machines
+pub mod Moving
+pub mod Symbols
+pub mod Gears
