@@ -5,17 +5,17 @@ use Rattle.std.specs.Prelude.{Contains, Option, slice_index_or}
 use Rattle.std.proofs.lemmas.Bool.{cases_lt}
 use Rattle.std.proofs.lemmas.List.{get_or-replicate}
 use Rattle.ternary.specs.declared.tern.Tern.{Tern}
-use Rattle.path_meaning.specs.Switching.{state_at}
-use Rattle.path_meaning.specs.Graphs.{GraphData, IsWired, nodes}
-use Rattle.path_meaning.specs.Rails.{IsSound}
-use Rattle.path_meaning.specs.Step.{IsResponse}
+use Rattle.switch_paths.specs.Switching.{state_at}
+use Rattle.switch_paths.specs.Graphs.{GraphData, IsWired, nodes}
+use Rattle.switch_paths.specs.Rails.{IsSound}
+use Rattle.switch_paths.specs.Step.{IsResponse}
 use Rattle.group_meaning.specs.Groups.{Group}
 use Rattle.group_meaning.proofs.GroupLemmas.{member_storage}
 use Rattle.group_rest.specs.Alike.{IsAlike}
 use Rattle.group_rest.specs.Rest.{Rests, Responded, ReadsNoChange}
 use Rattle.group_rest.proofs.RestingGroups.{unread_group_rests}
 use Rattle.part_words.specs.declared.change.Change.{Change}
-use Rattle.machine_parts.specs.declared.part.HeldPart.{HeldPart}
+use Rattle.machine_parts.specs.declared.part.MachinePart.{MachinePart}
 use Rattle.machine_parts.specs.Parts.{Stands, HasMember, IsStale}
 use Rattle.machine_parts.specs.Marking.{IsMarked}
 use Rattle.machine_parts.specs.Running.{AreOwners, IsTaken}
@@ -52,7 +52,8 @@ module _ (g h : GraphData) (wired : IsWired g) (wired_too : IsWired h) (good : L
       by_kind false = (fits.waits k stale, stale)
 
   -- the members of a part that was apart and isn't marked afterwards took their steady states, in this step or before
-  responded : (k : ℕ) (part : HeldPart) → Stands m.parts k part → IsMarked apart k → (¬ IsMarked marks k) → (group : Group) → IsPartOf h group part →
+  responded : (k : ℕ) (part : MachinePart) → Stands m.parts k part → IsMarked apart k → (¬ IsMarked marks k) → (group : Group) →
+      IsPartOf h group part →
       Responded h m.state new group.members
   responded k part stands is unmarked group is_part node member =
       let (place, there) = member_of_part h group part is_part node member in
@@ -69,7 +70,7 @@ module _ (g h : GraphData) (wired : IsWired g) (wired_too : IsWired h) (good : L
           (unmarked_response g h wired wired_too good apart m fits joining good_next changes owners owned new taken moves k node has is before)
 
   -- and it read no change
-  reads_no_change : (k : ℕ) (part : HeldPart) → Stands m.parts k part → 0 < part.members → IsMarked new_apart k → (¬ IsMarked marks k) → (group : Group) →
+  reads_no_change : (k : ℕ) (part : MachinePart) → Stands m.parts k part → 0 < part.members → IsMarked new_apart k → (¬ IsMarked marks k) → (group : Group) →
       IsPartOf h group part → ReadsNoChange h group m.state new
   reads_no_change k part stands some is unmarked group is_part node reads =
       let (code, has) = something part.code (λ none. unmarked (stale_marked k (record { part = part; stands = stands; some = some; none = none }))) in
@@ -86,7 +87,7 @@ module _ (g h : GraphData) (wired : IsWired g) (wired_too : IsWired h) (good : L
       ]
 
   -- so it rests
-  part_rests : (k : ℕ) (part : HeldPart) → Stands m.parts k part → IsMarked new_apart k → (¬ IsMarked marks k) → Rests h new (take part.members part.map.items)
+  part_rests : (k : ℕ) (part : MachinePart) → Stands m.parts k part → IsMarked new_apart k → (¬ IsMarked marks k) → Rests h new (take part.members part.map.items)
   part_rests k part stands is unmarked =
       elim (remarks.entered k is) [
         | inr marked ↦ absurd (unmarked marked)
@@ -102,7 +103,7 @@ module _ (g h : GraphData) (wired : IsWired g) (wired_too : IsWired h) (good : L
       ]
 
   -- a group that is stepped by vicinities rests again but for what is awake
-  held_again : (one : WideData) → wide ≡ Some one → (k : ℕ) (part : HeldPart) → Stands m.parts k part → 0 < part.members → part.code ≡ None →
+  held_again : (one : WideData) → wide ≡ Some one → (k : ℕ) (part : MachinePart) → Stands m.parts k part → 0 < part.members → part.code ≡ None →
       IsHeldIn h new one (slice_index_or m.uses k None) part
   held_again one is k part stands some none =
       let (before, was, touches) = retouched joining m.wide wide m.state new retouches one is in
@@ -123,7 +124,7 @@ module _ (g h : GraphData) (wired : IsWired g) (wired_too : IsWired h) (good : L
         rests = subst (λ graph. RestsAsleep graph new group.members one.touched.list) (sym same) rests;
       }
     where
-      held_responded : (before : WideData) → m.wide ≡ Some before → (k : ℕ) (part : HeldPart) → Stands m.parts k part → IsStale m.parts k →
+      held_responded : (before : WideData) → m.wide ≡ Some before → (k : ℕ) (part : MachinePart) → Stands m.parts k part → IsStale m.parts k →
           (held : IsHeldIn h m.state before (slice_index_or m.uses k None) part) (again : List ℕ) (kind : Bool) → IsMove kind h m.state new →
           (kind ≡ true → (node : ℕ) → Contains before.touched.list node → Contains again node) →
           RespondedAsleep before.graph m.state new held.group.members again
@@ -155,7 +156,7 @@ module _ (g h : GraphData) (wired : IsWired g) (wired_too : IsWired h) (good : L
   all_fit : (moved placed : ℕ) →
       FitsGraph h (record m { marks = replicate (length m.parts) true; state = new; moves = moved; placed = placed; wide = wide })
   all_fit moved placed =
-      let marked : (k : ℕ) (part : HeldPart) → Stands m.parts k part → IsMarked (replicate (length m.parts) true) k =
+      let marked : (k : ℕ) (part : MachinePart) → Stands m.parts k part → IsMarked (replicate (length m.parts) true) k =
       λ k part stands. get_or-replicate (length m.parts) k true false stands.inside in
       fits_with h (all_marked m) fits.fits (replicate (length m.parts) true) new m.last moved placed wide (moves.count ∙ fits.fits.covers.counted)
       (λ k part stands some none. marked k part stands) (λ k part stands unmarked. absurd (unmarked (marked k part stands))) stale_only_again held_again

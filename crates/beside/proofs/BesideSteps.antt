@@ -6,11 +6,11 @@ use Rattle.std.specs.declared.rc.Rc.{Rc}
 use Rattle.std.proofs.lemmas.List.{get_or-replicate}
 use Rattle.ternary.specs.declared.tern.Tern.{Tern}
 use Rattle.strength_order.specs.declared.TheConstants.{INPUT_LEVEL}
-use Rattle.path_meaning.specs.Switching.{state_at}
-use Rattle.path_meaning.specs.Graphs.{GraphData, IsWired, IsStorage, nodes, level_of}
-use Rattle.path_meaning.specs.Step.{IsResponse}
-use Rattle.path_meaning.proofs.ExistingSteps.{exists}
-use Rattle.path_meaning.proofs.UniqueSteps.{response_is_unique}
+use Rattle.switch_paths.specs.Switching.{state_at}
+use Rattle.switch_paths.specs.Graphs.{GraphData, IsWired, IsStorage, nodes, level_of}
+use Rattle.switch_paths.specs.Step.{IsResponse}
+use Rattle.switch_paths.proofs.ExistingSteps.{exists}
+use Rattle.switch_paths.proofs.UniqueSteps.{response_is_unique}
 use Rattle.group_meaning.specs.Groups.{Group}
 use Rattle.group_meaning.proofs.GroupLemmas.{storage_or_input}
 use Rattle.group_rest.specs.Rest.{Reads}
@@ -18,7 +18,7 @@ use Rattle.group_rest.proofs.AlikeGroups.{alike_groups_read_alike}
 use Rattle.straight_code.specs.Code.{CodeData, code_value}
 use Rattle.part_words.specs.declared.change.Change.{Change}
 use Rattle.part_words.specs.Noting.{after}
-use Rattle.machine_parts.specs.declared.part.HeldPart.{HeldPart}
+use Rattle.machine_parts.specs.declared.part.MachinePart.{MachinePart}
 use Rattle.machine_parts.specs.Parts.{Stands, IsMemberAt, HasMember, IsStale}
 use Rattle.machine_parts.specs.Marking.{IsMarked}
 use Rattle.machine_parts.specs.Running.{AreOwners, IsTaken}
@@ -64,7 +64,7 @@ module _ (g h : GraphData) (wired : IsWired g) (wired_too : IsWired h) (good : L
   stale_apart k stale = fits.only k (fits.waits k stale)
 
   -- a part that isn't stale and has members has code
-  code_of : (k : ℕ) (part : HeldPart) → Stands m.parts k part → 0 < part.members → (¬ IsStale m.parts k) → (code : Rc CodeData Global) × (part.code ≡ Some code)
+  code_of : (k : ℕ) (part : MachinePart) → Stands m.parts k part → 0 < part.members → (¬ IsStale m.parts k) → (code : Rc CodeData Global) × (part.code ≡ Some code)
   code_of k part stands some fresh =
       something part.code (λ none. fresh (record { part = part; stands = stands; some = some; none = none }))
 
@@ -100,10 +100,11 @@ module _ (g h : GraphData) (wired : IsWired g) (wired_too : IsWired h) (good : L
       let gives = given.gives in
       let same = fits.fits.covers.apart given.k k node (HasMember-from_Gives m.parts m.state given.k node value gives) has in
       let part = same_part m.parts k stale.part gives.part stale.stands (subst (λ l. Stands m.parts l gives.part) same gives.stands) in
-      absurd (cc (ap (λ (p : HeldPart). p.code) part, stale.none, gives.has))
+      absurd (cc (ap (λ (p : MachinePart). p.code) part, stale.none, gives.has))
 
   -- both runs agree on the group of a part that isn't apart
-  agrees_on : (k : ℕ) (part : HeldPart) → Stands m.parts k part → 0 < part.members → (¬ IsMarked apart k) → (group : Group) → IsPartOf h group part →
+  agrees_on : (k : ℕ) (part : MachinePart) → Stands m.parts k part → 0 < part.members → (¬ IsMarked apart k) → (group : Group) →
+      IsPartOf h group part →
       Agrees g group good m.state
   agrees_on k part stands some out group is_part =
       let alike = fits.shared k part stands out group is_part in

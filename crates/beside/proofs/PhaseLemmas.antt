@@ -5,10 +5,10 @@ use Rattle.std.proofs.lemmas.List.{ext_get_or}
 use Rattle.ternary.specs.declared.tern.Tern.{Tern}
 use Rattle.ternary.specs.declared.tern.Tern.TheVariants.{Zero}
 use Rattle.ternary.proofs.TernLemmas.{join-fades}
-use Rattle.path_meaning.specs.Switching.{state_at}
-use Rattle.path_meaning.specs.Graphs.{GraphData, IsWired, nodes}
-use Rattle.path_meaning.specs.Step.{IsStep}
-use Rattle.oscillation_x.specs.Settling.{IsJoinStep, StaysOrBecomesX}
+use Rattle.switch_paths.specs.Switching.{state_at}
+use Rattle.switch_paths.specs.Graphs.{GraphData, IsWired, nodes}
+use Rattle.switch_paths.specs.Step.{IsStep}
+use Rattle.settling.specs.Settling.{IsJoinStep, StaysOrBecomesX}
 use Rattle.part_words.specs.declared.change.Change.{Change}
 use Rattle.machine_parts.specs.Running.{IsTaken}
 use Rattle.part_steps.proofs.TakingLemmas.{change_of}

@@ -5,13 +5,13 @@ use Rattle.std.proofs.lemmas.Bool.{cases_eq, cases_lt}
 use Rattle.std.proofs.lemmas.List.{get_or-replicate, get_or-set_other, length-set}
 use Rattle.ternary.specs.declared.tern.Tern.{Tern}
 use Rattle.ternary.specs.declared.tern.Tern.TheVariants.{Zero}
-use Rattle.path_meaning.specs.Switching.{state_at}
-use Rattle.path_meaning.specs.Graphs.{GraphData, IsWired}
-use Rattle.path_meaning.specs.Step.{IsResponse}
+use Rattle.switch_paths.specs.Switching.{state_at}
+use Rattle.switch_paths.specs.Graphs.{GraphData, IsWired}
+use Rattle.switch_paths.specs.Step.{IsResponse}
 use Rattle.group_meaning.specs.Groups.{Group}
 use Rattle.group_rest.specs.Rest.{Rests, Responded, ReadsNoChange}
 use Rattle.group_rest.proofs.RestingGroups.{unread_group_rests}
-use Rattle.machine_parts.specs.declared.part.HeldPart.{HeldPart}
+use Rattle.machine_parts.specs.declared.part.MachinePart.{MachinePart}
 use Rattle.machine_parts.specs.Parts.{Stands}
 use Rattle.machine_parts.specs.Marking.{IsMarked}
 use Rattle.machine_parts.specs.Stepping.{Concerns}
@@ -25,13 +25,13 @@ use Rattle.beside.specs.Fitting.{FitsBeside, all_marked}
 use Rattle.beside.specs.Laws.{PutsApart, PlacingFitsBeside}
 
 -- the part that a node concerns is there
-concerned_inside : (parts : List HeldPart) (k node : ℕ) → Concerns parts k node → k < length parts
+concerned_inside : (parts : List MachinePart) (k node : ℕ) → Concerns parts k node → k < length parts
 concerned_inside parts k node concerns = elim concerns [ inl has ↦ has.stands.inside | inr reads ↦ reads.stands.inside ]
 
 -- it is placed with all parts marked too
 places_marked : (node : ℕ) (value : Tern) (old new : MachineData) → Places node value old new → Places node value (all_marked old) (all_marked new)
 places_marked node value old new places =
-    let same : replicate (length new.parts) true ≡ replicate (length old.parts) true = ap (λ (parts : List HeldPart). replicate (length parts) true) places.held.parts in
+    let same : replicate (length new.parts) true ≡ replicate (length old.parts) true = ap (λ (parts : List MachinePart). replicate (length parts) true) places.held.parts in
     record {
       state = places.state;
       count = ap length same;
@@ -59,7 +59,7 @@ module _ (g h : GraphData) (good : List Tern) (apart new_apart : List Bool) (nod
   unconcerned k n unmarked concerns same = unmarked (places.concerns k (subst (Concerns old.parts k) same concerns))
 
   -- and rests, if it is apart
-  part_rests : (k : ℕ) (part : HeldPart) → Stands old.parts k part → IsMarked new_apart k → (¬ IsMarked new.marks k) → Rests h new.state (take part.members part.map.items)
+  part_rests : (k : ℕ) (part : MachinePart) → Stands old.parts k part → IsMarked new_apart k → (¬ IsMarked new.marks k) → Rests h new.state (take part.members part.map.items)
   part_rests k part stands is unmarked =
       elim (puts.only k is) [
         | inr concerns ↦ absurd (unmarked (places.concerns k concerns))
@@ -76,14 +76,14 @@ module _ (g h : GraphData) (good : List Tern) (apart new_apart : List Bool) (nod
             ]
       ]
     where
-      responded : (part : HeldPart) → Stands old.parts k part → (group : Group) → IsPartOf h group part → Rests h old.state group.members →
+      responded : (part : MachinePart) → Stands old.parts k part → (group : Group) → IsPartOf h group part → Rests h old.state group.members →
           Responded h old.state new.state group.members
       responded part stands group is_part rests n member =
           let (place, there) = member_of_part h group part is_part n member in
           let differs = unconcerned k n unmarked (inl (record { part = part; stands = stands; place = place; member = there })) in
           subst (IsResponse h old.state n) (sym (stays_bad n differs)) (rests n member)
 
-      reads_none : (part : HeldPart) → Stands old.parts k part → 0 < part.members → (¬ IsMarked old.marks k) → (group : Group) → IsPartOf h group part →
+      reads_none : (part : MachinePart) → Stands old.parts k part → 0 < part.members → (¬ IsMarked old.marks k) → (group : Group) → IsPartOf h group part →
           ReadsNoChange h group old.state new.state
       reads_none part stands some before group is_part n reads =
           let (code, has) = something part.code (λ none. before (fits.waits k (record { part = part; stands = stands; some = some; none = none }))) in

@@ -2,8 +2,8 @@
 use Rattle.std.proofs.Common.{◌≡◌, ℕ, ◌<◌, true, false, inl, inr, length, replicate, sym, subst}
 use Rattle.std.specs.Prelude.{slice_index_or}
 use Rattle.std.proofs.lemmas.List.{get_or-replicate}
-use Rattle.path_meaning.specs.Graphs.{GraphData}
-use Rattle.machine_parts.specs.declared.part.HeldPart.{HeldPart}
+use Rattle.switch_paths.specs.Graphs.{GraphData}
+use Rattle.machine_parts.specs.declared.part.MachinePart.{MachinePart}
 use Rattle.machine_parts.specs.Parts.{Stands}
 use Rattle.machine_parts.specs.Marking.{IsMarked}
 use Rattle.machine_parts.proofs.CaseLemmas.{true_or_not}
@@ -18,7 +18,7 @@ use Rattle.beside.specs.Laws.{MachinesStartBeside, GoingBackFitsBeside}
 -- with all parts marked a machine fits the graph that it fits
 all_fit : (h : GraphData) (m : MachineData) → FitsGraph h m → FitsGraph h (all_marked m)
 all_fit h m fits =
-    let marked : (k : ℕ) (part : HeldPart) → Stands m.parts k part → IsMarked (replicate (length m.parts) true) k =
+    let marked : (k : ℕ) (part : MachinePart) → Stands m.parts k part → IsMarked (replicate (length m.parts) true) k =
     λ k part stands. get_or-replicate (length m.parts) k true false stands.inside in
     fits_with h m fits (replicate (length m.parts) true) m.state m.last m.moves m.placed m.wide fits.covers.counted
     (λ k part stands some none. marked k part stands) (λ k part stands unmarked. absurd (unmarked (marked k part stands))) fits.covers.stale_only

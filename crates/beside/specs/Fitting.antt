@@ -2,11 +2,11 @@
 -- After Bryant and Schuster, "Performance Evaluation of FMOSSIM, a Concurrent Switch-Level Fault Simulator", 1985.
 use Rattle.std.specs.Prelude.{◌≡◌, ℕ, Bool, true, List, length, take, replicate}
 use Rattle.ternary.specs.declared.tern.Tern.{Tern}
-use Rattle.path_meaning.specs.Graphs.{GraphData}
+use Rattle.switch_paths.specs.Graphs.{GraphData}
 use Rattle.group_meaning.specs.Groups.{Group}
 use Rattle.group_rest.specs.Alike.{IsAlike}
 use Rattle.group_rest.specs.Rest.{Rests}
-use Rattle.machine_parts.specs.declared.part.HeldPart.{HeldPart}
+use Rattle.machine_parts.specs.declared.part.MachinePart.{MachinePart}
 use Rattle.machine_parts.specs.Marking.{IsMarked}
 use Rattle.machine_parts.specs.Parts.{Stands, IsStale}
 use Rattle.machine_laws.specs.Machines.{MachineData}
@@ -24,9 +24,10 @@ pub record FitsBeside (g h : GraphData) (good : List Tern) (apart : List Bool) (
   pub counted : length m.marks ≡ length m.parts
   pub apart_counted : length apart ≡ length m.parts
   pub good_counted : length good ≡ length m.state
-  pub shared : (k : ℕ) (part : HeldPart) → Stands m.parts k part → (¬ IsMarked apart k) → (group : Group) → IsPartOf h group part → IsAlike g h group
+  pub shared : (k : ℕ) (part : MachinePart) → Stands m.parts k part → (¬ IsMarked apart k) → (group : Group) →
+      IsPartOf h group part → IsAlike g h group
   pub kept : KeepsPartsApart m.parts apart good m.state
   pub waits : (k : ℕ) → IsStale m.parts k → IsMarked m.marks k
   pub only : (k : ℕ) → IsMarked m.marks k → IsMarked apart k
-  pub rests : (k : ℕ) (part : HeldPart) → Stands m.parts k part → IsMarked apart k → (¬ IsMarked m.marks k) →
+  pub rests : (k : ℕ) (part : MachinePart) → Stands m.parts k part → IsMarked apart k → (¬ IsMarked m.marks k) →
       Rests h m.state (take part.members part.map.items)

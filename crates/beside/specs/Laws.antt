@@ -2,13 +2,13 @@
 -- After Bryant and Schuster, "Performance Evaluation of FMOSSIM, a Concurrent Switch-Level Fault Simulator", 1985.
 use Rattle.std.specs.Prelude.{◌≡◌, ℕ, ◌<◌, ◌≤◌, ◌⊎◌, Bool, List, length, slice_set}
 use Rattle.ternary.specs.declared.tern.Tern.{Tern}
-use Rattle.path_meaning.specs.declared.TheConstants.{RAILS}
-use Rattle.path_meaning.specs.Switching.{state_at}
-use Rattle.path_meaning.specs.Graphs.{GraphData, IsWired}
+use Rattle.switch_paths.specs.declared.TheConstants.{RAILS}
+use Rattle.switch_paths.specs.Switching.{state_at}
+use Rattle.switch_paths.specs.Graphs.{GraphData, IsWired}
 use Rattle.group_meaning.specs.Groups.{Group}
 use Rattle.group_rest.specs.Alike.{IsAlike}
 use Rattle.part_words.specs.declared.change.Change.{Change}
-use Rattle.machine_parts.specs.declared.part.HeldPart.{HeldPart}
+use Rattle.machine_parts.specs.declared.part.MachinePart.{MachinePart}
 use Rattle.machine_parts.specs.Marking.{IsMarked}
 use Rattle.machine_parts.specs.Parts.{Stands}
 use Rattle.machine_parts.specs.Running.{IsTaken}
@@ -60,5 +60,5 @@ pub record GoBack (touched : List Bool) (m : MachineData) (good : List Tern) (ol
 abbrev pub GoingBackFitsBeside : Type 0
 GoingBackFitsBeside =
     (g h : GraphData) (good : List Tern) (touched apart new_apart : List Bool) (m : MachineData) → FitsBeside g h good apart m →
-    ((k : ℕ) (part : HeldPart) → Stands m.parts k part → (¬ IsMarked touched k) → (group : Group) → IsPartOf h group part → IsAlike g h group) →
+    ((k : ℕ) (part : MachinePart) → Stands m.parts k part → (¬ IsMarked touched k) → (group : Group) → IsPartOf h group part → IsAlike g h group) →
     GoBack touched m good apart new_apart → FitsBeside g h good new_apart m

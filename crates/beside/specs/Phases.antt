@@ -2,8 +2,8 @@
 -- After Bryant and Schuster, "Performance Evaluation of FMOSSIM, a Concurrent Switch-Level Fault Simulator", 1985.
 use Rattle.std.specs.Prelude.{ℕ, ◌+◌, ◌-◌, ◌<◌, ◌≤◌, Bool, List, length}
 use Rattle.ternary.specs.declared.tern.Tern.{Tern}
-use Rattle.path_meaning.specs.Graphs.{GraphData}
-use Rattle.oscillation_x.specs.Settling.{Settles}
+use Rattle.switch_paths.specs.Graphs.{GraphData}
+use Rattle.settling.specs.Settling.{Settles}
 use Rattle.machine_laws.specs.Machines.{MachineData}
 use Rattle.good_run.specs.Recording.{RunData, state_before}
 use Rattle.run_beside.specs.Replacing.{IsReplacement, ReplacesFrom}

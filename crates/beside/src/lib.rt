@@ -16,9 +16,9 @@
 #![tactic(auto)]
 
 mod laws;
+mod phases;
 mod placing;
-mod settling;
 
 pub use laws::{machines_fit_beside, steps_fit_beside};
+pub use phases::settle_beside;
 pub use placing::{go_back, place_beside};
-pub use settling::settle_beside;

@@ -1,14 +1,14 @@
 //! Placing a node in both runs, and parts that go back.
 ghost use Rattle.std.specs.Prelude.{◌≡◌, ℕ, ◌<◌, ◌≤◌, Some, length, slice_set, Contains};
 ghost use Rattle.std.specs.Bool.{OnFalse};
-ghost use Rattle.path_meaning.specs.declared.TheConstants.{RAILS};
+ghost use Rattle.switch_paths.specs.declared.TheConstants.{RAILS};
 ghost use Rattle.machine_parts.specs.Marking.{MarksAll};
 ghost use Rattle.beside.specs.Fitting.{FitsBeside};
 ghost use Rattle.beside.specs.Laws.{GoBack, PutsApart};
 ghost use Rattle.beside.specs.Returning.{GoesBack, MayGoBack};
 
-use path_meaning::{Graph, graphs_are_wired};
 use std::mem::swap;
+use switch_paths::{Graph, graphs_are_wired};
 use ternary::Tern;
 use unit_step::Machine;
 use vicinity::NodeSet;

@@ -7,9 +7,9 @@ use Rattle.std.proofs.lemmas.List.{length-set, length-take, get_or-set_same, get
 use Rattle.std.proofs.lemmas.List.Elements.{Contains-append_left, Contains-append_right}
 use Rattle.std.proofs.lemmas.List.FromFn.{length-range_with_len, get_or-range_with_len}
 use Rattle.list_facts.proofs.ContainsLemmas.{Contains-cons_first, Contains-cons_later}
-use Rattle.path_meaning.specs.declared.switching.Switch.{Switch}
-use Rattle.path_meaning.specs.Graphs.{GraphData, nodes, level_of, place_at}
-use Rattle.path_meaning.specs.Path.{Joins}
+use Rattle.switch_paths.specs.declared.switching.Switch.{Switch}
+use Rattle.switch_paths.specs.Graphs.{GraphData, nodes, level_of, place_at}
+use Rattle.switch_paths.specs.Path.{Joins}
 use Rattle.group_meaning.specs.Groups.{AreJoined}
 use Rattle.channel_groups.specs.declared.change.Change.{Change}
 use Rattle.channel_groups.specs.Changes.{undo, with_place, with_level, ends_of, ends_before, ends_after, levelled, nodes_before, nodes_after, DifferAt}

@@ -11,8 +11,8 @@ use Rattle.std.proofs.lemmas.Map.Made.{length-le_from_is_member}
 use Rattle.list_facts.proofs.ContainsLemmas.{Contains-cons_first, Contains-cons_later, Contains-from_filter, passes-from_filter, unlike}
 use Rattle.list_facts.proofs.DistinctLemmas.{not_again, IsDistinct-filter}
 use Rattle.indexmap.proofs.CallerLemmas.{Contains-list_any}
-use Rattle.path_meaning.specs.declared.switching.Switch.{Switch}
-use Rattle.path_meaning.specs.Graphs.{GraphData}
+use Rattle.switch_paths.specs.declared.switching.Switch.{Switch}
+use Rattle.switch_paths.specs.Graphs.{GraphData}
 use Rattle.channel_groups.specs.Listing.{HasEndAt, AreListed, is_other, others_at}
 
 -- two lists without repeats have none together, where they share nothing

@@ -10,7 +10,7 @@ use Rattle.list_facts.proofs.ContainsLemmas.{Contains-cons_cases}
 use Rattle.indexmap.proofs.CallerLemmas.{Contains-insert_key, Contains-list_any}
 use Rattle.indexmap.proofs.MapLemmas.{distinct-take}
 use Rattle.indexmap.specs.IndexSet.{insert_key}
-use Rattle.path_meaning.specs.Graphs.{GraphData, nodes, IsStorage}
+use Rattle.switch_paths.specs.Graphs.{GraphData, nodes, IsStorage}
 use Rattle.group_meaning.specs.Groups.{AreJoined, AreLinked, LinksOver, Group, id_of, IsGroup}
 use Rattle.group_meaning.proofs.GroupLemmas.{linked_member}
 use Rattle.group_meaning.proofs.LinkLemmas.{AreLinked-self, AreLinked-trans, AreLinked-joined, AreLinked-sym, AreLinked-to, LinksOver-from}

@@ -11,7 +11,7 @@ use Rattle.std.proofs.lemmas.List.Kept.{AllPairs-from_increasing}
 use Rattle.group_meaning.proofs.MappedLists.{contains-from_map}
 use Rattle.list_facts.proofs.ContainsLemmas.{Contains-cons_cases, Contains-cons_first, Contains-cons_later}
 use Rattle.group_meaning.specs.Groups.{Group, IsGroup, id_of}
-use Rattle.path_meaning.specs.Graphs.{GraphData}
+use Rattle.switch_paths.specs.Graphs.{GraphData}
 use Rattle.channel_groups.specs.declared.group.GroupId.{GroupId}
 use Rattle.channel_groups.specs.Grouping.{has_member, group_with, IsId, class_at, slot_at, held, IsHeld}
 

@@ -4,7 +4,7 @@ use Rattle.std.proofs.Common.{◌≡◌, ℕ, inl, inr, true, false, ◌||◌, L
 use Rattle.std.proofs.lemmas.Bool.{cases_Bool}
 use Rattle.std.proofs.lemmas.List.Elements.{All-contains}
 use Rattle.list_facts.proofs.ContainsLemmas.{Contains-filter}
-use Rattle.path_meaning.specs.Graphs.{GraphData, IsWired, level_of, IsStorage}
+use Rattle.switch_paths.specs.Graphs.{GraphData, IsWired, level_of, IsStorage}
 use Rattle.group_meaning.specs.Groups.{AreJoined, AreLinked, Group, id_of, IsGroup, AreGroups}
 use Rattle.group_meaning.proofs.LinkLemmas.{AreLinked-joined, AreJoined-sym, Joins-sym}
 use Rattle.group_meaning.proofs.GroupLemmas.{member_storage, linked_member, joined_member, end_in_range, storage_or_input}

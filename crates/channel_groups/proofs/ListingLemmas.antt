@@ -9,9 +9,9 @@ use Rattle.std.proofs.lemmas.List.Elements.{Contains-push, Contains-push_cases, 
 use Rattle.std.proofs.lemmas.Map.Keys.{IsDistinct-push}
 use Rattle.indexmap.proofs.CallerLemmas.{Contains-list_any}
 use Rattle.smallvec.specs.SmallVec.{SmallVec}
-use Rattle.path_meaning.specs.declared.switching.Switch.{Switch}
-use Rattle.path_meaning.specs.Graphs.{GraphData, place_at}
-use Rattle.path_meaning.proofs.PathLemmas.{place_inside}
+use Rattle.switch_paths.specs.declared.switching.Switch.{Switch}
+use Rattle.switch_paths.specs.Graphs.{GraphData, place_at}
+use Rattle.switch_paths.proofs.PathLemmas.{place_inside}
 use Rattle.channel_groups.specs.Listing.{places_of, HasEndAt, AreListed, AreListedTo, SetsAt, Moves}
 use Rattle.list_facts.specs.Taking.{TakesOut}
 

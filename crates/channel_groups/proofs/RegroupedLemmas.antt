@@ -7,7 +7,7 @@ use Rattle.std.specs.Prelude.{Any}
 use Rattle.std.proofs.lemmas.Bool.{cases_eq}
 use Rattle.std.proofs.lemmas.List.Elements.{All-contains, Contains-get_or}
 use Rattle.list_facts.proofs.ContainsLemmas.{Contains-cons_cases, Contains-cons_first, Contains-cons_later}
-use Rattle.path_meaning.specs.Graphs.{GraphData, IsStorage}
+use Rattle.switch_paths.specs.Graphs.{GraphData, IsStorage}
 use Rattle.group_meaning.specs.Groups.{AreLinked, Group, id_of, IsGroup, AreGroups}
 use Rattle.group_meaning.proofs.GroupLemmas.{linked_member}
 use Rattle.group_meaning.proofs.UniqueGroups.{id_member, same_by_member}

@@ -12,7 +12,7 @@ use Rattle.list_facts.proofs.ContainsLemmas.{Contains-cons_cases, Contains-cons_
 use Rattle.indexmap.specs.IndexSet.{insert_key}
 use Rattle.indexmap.proofs.CallerLemmas.{Contains-insert_key, Contains-list_any}
 use Rattle.strength_order.specs.declared.TheConstants.{INPUT_LEVEL}
-use Rattle.path_meaning.specs.Graphs.{GraphData, nodes, level_of, is_storage_level, IsStorage}
+use Rattle.switch_paths.specs.Graphs.{GraphData, nodes, level_of, is_storage_level, IsStorage}
 use Rattle.group_meaning.specs.Groups.{Group, id_of, IsGroup}
 use Rattle.group_meaning.proofs.UniqueGroups.{same_by_id, same_by_member}
 use Rattle.group_meaning.proofs.MappedLists.{contains-from_map}

@@ -12,8 +12,8 @@ use Rattle.std.proofs.lemmas.List.Sums.{sum_by-cons, get_or-le-sum_by}
 use Rattle.std.proofs.lemmas.Map.Keys.{IsDistinct-tail}
 use Rattle.list_facts.proofs.ContainsLemmas.{Contains-cons_cases, Contains-cons_first, Contains-cons_later, Contains-filter, Contains-from_filter, passes-from_filter}
 use Rattle.group_meaning.proofs.MappedLists.{contains-map}
-use Rattle.path_meaning.specs.declared.switching.Switch.{Switch}
-use Rattle.path_meaning.specs.Graphs.{GraphData, IsStorage}
+use Rattle.switch_paths.specs.declared.switching.Switch.{Switch}
+use Rattle.switch_paths.specs.Graphs.{GraphData, IsStorage}
 use Rattle.group_meaning.specs.Groups.{Group, id_of, IsGroup, AreGroups}
 use Rattle.group_meaning.proofs.GroupLemmas.{member_storage}
 use Rattle.group_meaning.proofs.UniqueGroups.{id_member, same_by_member}

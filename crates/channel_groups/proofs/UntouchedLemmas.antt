@@ -2,7 +2,7 @@
 -- Its members have none of the changed nodes among them, so what linked them links them still. And where a switch or a
 -- level of the graph now led out of it, it would lead over a changed node to what was seen.
 use Rattle.std.proofs.Common.{◌≡◌, ℕ, inl, inr, List, [], ◌∷◌, Contains, refl, ◌∙◌}
-use Rattle.path_meaning.specs.Graphs.{GraphData, IsStorage, place_at}
+use Rattle.switch_paths.specs.Graphs.{GraphData, IsStorage, place_at}
 use Rattle.group_meaning.specs.Groups.{AreJoined, AreLinked, LinksOver, TouchesAny, Group, id_of, IsGroup}
 use Rattle.group_meaning.proofs.LinkLemmas.{AreLinked-joined, AreLinked-sym, AreLinked-trans, LinksOver-from, AreJoined-sym}
 use Rattle.group_meaning.proofs.GroupLemmas.{member_storage, linked_member}

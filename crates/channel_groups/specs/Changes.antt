@@ -1,8 +1,8 @@
 -- A graph before one edit, and which groups the edit touches.
 use Rattle.std.specs.Prelude.{◌≡◌, ℕ, ◌+◌, ◌-◌, ◌==◌, ◌<◌, ◌⊎◌, Contains, Bool, ◌||◌, List, [], ◌∷◌, ◌++◌, length, filter, take, Option, Some, None, slice_set, option_map, false}
 use Rattle.std.specs.List.{list_any, range_with_len, sum_by}
-use Rattle.path_meaning.specs.declared.switching.Switch.{Switch}
-use Rattle.path_meaning.specs.Graphs.{GraphData, nodes, level_of, place_at}
+use Rattle.switch_paths.specs.declared.switching.Switch.{Switch}
+use Rattle.switch_paths.specs.Graphs.{GraphData, nodes, level_of, place_at}
 use Rattle.group_meaning.specs.Groups.{Group, AreJoined}
 use Rattle.channel_groups.specs.declared.change.Change.{Change}
 

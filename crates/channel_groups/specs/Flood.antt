@@ -1,7 +1,7 @@
 -- The flood from a storage node: what is found from one node, and how far the flood is.
 use Rattle.std.specs.Prelude.{◌≡◌, ℕ, ◌+◌, ◌*◌, ◌<◌, ◌≤◌, ◌⊎◌, List, ◌++◌, length, slice_index, Contains}
 use Rattle.std.specs.List.Sorted.{IsStrictlyIncreasing}
-use Rattle.path_meaning.specs.Graphs.{GraphData, IsStorage}
+use Rattle.switch_paths.specs.Graphs.{GraphData, IsStorage}
 use Rattle.group_meaning.specs.Groups.{AreJoined, AreLinked, Group, IsGroup}
 
 -- from a node these places are looked at: what was found and listed stays, and the storage nodes at the other ends

@@ -1,6 +1,6 @@
 -- Laws of edits, each proved as the contract of a function in `src/laws.rt`.
 use Rattle.std.specs.Prelude.{◌≡◌, false, List, [], ◌∷◌, ◌++◌, Contains, None}
-use Rattle.path_meaning.specs.Graphs.{GraphData, IsWired}
+use Rattle.switch_paths.specs.Graphs.{GraphData, IsWired}
 use Rattle.group_meaning.specs.Groups.{Group, AreGroups}
 use Rattle.channel_groups.specs.declared.change.Change.{Change}
 use Rattle.channel_groups.specs.Grouping.{GroupsData, AreOf}

@@ -2,8 +2,8 @@
 use Rattle.std.specs.Prelude.{◌≡◌, ◌≢◌, ℕ, ◌<◌, ◌⊎◌, length, List, [], map, Contains, nat_eq, ◌==◌, Bool, true, not, filter, Option, Some, None, slice_index_or}
 use Rattle.std.specs.List.{IsDistinct}
 use Rattle.smallvec.specs.SmallVec.{SmallVec, HasRoomFor}
-use Rattle.path_meaning.specs.declared.switching.Switch.{Switch}
-use Rattle.path_meaning.specs.Graphs.{GraphData, place_at}
+use Rattle.switch_paths.specs.declared.switching.Switch.{Switch}
+use Rattle.switch_paths.specs.Graphs.{GraphData, place_at}
 
 -- the places that are listed at a node; past the last list there are none
 abbrev pub places_of : List (SmallVec ℕ) → ℕ → List ℕ

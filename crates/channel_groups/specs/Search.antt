@@ -1,7 +1,7 @@
 -- The groups that were found so far.
 use Rattle.std.specs.Prelude.{ℕ, ◌+◌, ◌*◌, ◌≤◌, ◌⊎◌, Bool, nat_lt, ◌&&◌, List, length, map, filter, nat_eq, Contains}
 use Rattle.std.specs.List.{IsDistinct, sum_by}
-use Rattle.path_meaning.specs.Graphs.{GraphData, nodes, level_of, is_storage_level, IsStorage}
+use Rattle.switch_paths.specs.Graphs.{GraphData, nodes, level_of, is_storage_level, IsStorage}
 use Rattle.group_meaning.specs.Groups.{Group, id_of, IsGroup, AreGroups}
 
 -- what was found are groups, none of them twice, and what was seen are their members

@@ -3,7 +3,7 @@ use Rattle.std.specs.Prelude.{◌≡◌, ◌≢◌, ℕ, ◌+◌, ◌*◌, ◌<�
 use Rattle.std.specs.List.{sum_by, IsDistinct}
 use Rattle.group_meaning.specs.Groups.{Group, id_of, AreGroups}
 use Rattle.smallvec.specs.SmallVec.{SmallVec}
-use Rattle.path_meaning.specs.Graphs.{GraphData, nodes, IsStorage}
+use Rattle.switch_paths.specs.Graphs.{GraphData, nodes, IsStorage}
 use Rattle.channel_groups.specs.declared.change.Change.{Change}
 use Rattle.channel_groups.specs.Listing.{places_of, HasRoomAt}
 use Rattle.channel_groups.specs.Search.{AreFound}

@@ -3,8 +3,8 @@
 ghost use Rattle.std.specs.Prelude.{◌≡◌, ◌++◌, IfOk, OnOk};
 ghost use Rattle.channel_groups.specs.Changes.{changed_place, nodes_before, nodes_after, ends_before, ends_after, ends_of, levelled};
 
-use path_meaning::{Graph, Switch};
 use std::alloc::{AllocError, Global};
+use switch_paths::{Graph, Switch};
 
 /// How a graph was before one edit: how many nodes it had, what the named place held, and which
 /// level the named node had.

@@ -3,13 +3,13 @@
 ghost use Rattle.std.specs.Prelude.{◌≡◌, ℕ, ◌+◌, ◌<◌, ◌≤◌, ◌∷◌, [], ◌++◌, None, Some, length, nat_eq, option_map, slice_index_or, slice_set, IfOk, IfSome, OnOk};
 ghost use Rattle.std.specs.List.{IsDistinct};
 ghost use Rattle.smallvec.specs.SmallVec.{HasRoomFor};
-ghost use Rattle.path_meaning.specs.Graphs.{nodes, place_at};
+ghost use Rattle.switch_paths.specs.Graphs.{nodes, place_at};
 ghost use Rattle.list_facts.specs.Taking.{TakesOut};
 ghost use Rattle.channel_groups.specs.Listing.{places_of, AreListed, AreListedTo, SetsAt, HasRoomAt, Moves};
 
-use path_meaning::Graph;
 use smallvec::SmallVec;
 use std::alloc::{AllocError, Global};
+use switch_paths::Graph;
 
 /// The places at a node: most nodes have few.
 pub(crate) type Places = SmallVec<usize, 4>;

@@ -1,7 +1,7 @@
 //! The flood from a storage node to all that it is linked with.
 
 ghost use Rattle.std.specs.Prelude.{◌≡◌, ℕ, ◌+◌, ◌<◌, ◌≤◌, length, filter, if◌then◌else◌, None, Some, Contains, IfOk, IfSome, OnOk, IsTrue, ◌↔◌};
-ghost use Rattle.path_meaning.specs.Graphs.{nodes, IsStorage};
+ghost use Rattle.switch_paths.specs.Graphs.{nodes, IsStorage};
 ghost use Rattle.group_meaning.specs.Groups.{AreJoined, IsGroup};
 ghost use Rattle.channel_groups.specs.Listing.{AreListed, places_of, is_other, others_at};
 ghost use Rattle.channel_groups.specs.Flood.{Sees, IsPaid};
@@ -9,10 +9,10 @@ ghost use Rattle.channel_groups.specs.Flood.{Sees, IsPaid};
 use crate::ends::{Ends, listed};
 use crate::group::Group;
 use indexmap::IndexSet;
-use path_meaning::Graph;
 use std::alloc::{AllocError, Global};
 use std::sync::ledger::Ledger;
 use strength_order::INPUT_LEVEL;
+use switch_paths::Graph;
 use ternary::Steps;
 
 /// The nodes that were found, and the places of switches with an end at them.

@@ -1,7 +1,7 @@
 //! The groups of a graph, and how they are looked up.
 
 ghost use Rattle.std.specs.Prelude.{◌≡◌, ◌≢◌, ℕ, ◌+◌, ◌*◌, ◌<◌, ◌≤◌, ◌∷◌, [], ◌++◌, Some, None, List, count_by, is_some, find, length, map, nat_le, nat_eq, option_map, All, Contains, IfOk, IfSome, OnOk, OnErr};
-ghost use Rattle.path_meaning.specs.Graphs.{nodes, IsStorage};
+ghost use Rattle.switch_paths.specs.Graphs.{nodes, IsStorage};
 ghost use Rattle.group_meaning.specs.Groups.{Group, AreGroups, id_of};
 ghost use Rattle.channel_groups.specs.Listing.{AreListed, places_of};
 ghost use Rattle.channel_groups.specs.Changes.{undo, touched_size};
@@ -15,10 +15,10 @@ use crate::held::{Held, group_of, no_groups, put_all, slot};
 use crate::regroup::{prepare, relist, write};
 use crate::search::{Found, try_root};
 use indexmap::IndexSet;
-use path_meaning::{Graph, graphs_are_wired};
 use std::alloc::{AllocError, Global};
 use std::marker::{Brand, Model};
 use std::sync::ledger::{Blank, Ledger};
+use switch_paths::{Graph, graphs_are_wired};
 use ternary::{NoMemory, Steps};
 
 /// The channel-connected groups of a graph.

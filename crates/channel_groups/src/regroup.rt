@@ -1,7 +1,7 @@
 //! The groups after an edit: what is looked for first, and what is written then.
 
 ghost use Rattle.std.specs.Prelude.{◌≡◌, ℕ, ◌≤◌, None, Some, length, option_map, IfOk, OnOk, OnErr, ◌+◌, Contains};
-ghost use Rattle.path_meaning.specs.Graphs.{nodes};
+ghost use Rattle.switch_paths.specs.Graphs.{nodes};
 ghost use Rattle.std.specs.List.{sum_by};
 ghost use Rattle.group_meaning.specs.Groups.{Group, AreGroups};
 ghost use Rattle.channel_groups.specs.Listing.{AreListed, places_of, HasRoomAt};
@@ -15,9 +15,9 @@ use crate::ends::{Ends, grow_lists, grow_spots, move_place, reserve_place};
 use crate::held::{Held, clear, grow_held, put_all};
 use crate::search::{Found, each_once, members_touched, try_roots};
 use indexmap::IndexSet;
-use path_meaning::{Graph, Switch};
 use std::alloc::{AllocError, Global};
 use std::sync::ledger::Ledger;
+use switch_paths::{Graph, Switch};
 use ternary::Steps;
 
 /// What is to be taken out and put in.

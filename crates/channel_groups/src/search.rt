@@ -13,10 +13,10 @@ use crate::flood::group_at;
 use crate::group::Group;
 use crate::held::{Held, group_of};
 use indexmap::IndexSet;
-use path_meaning::Graph;
 use std::alloc::{AllocError, Global};
 use std::sync::ledger::Ledger;
 use strength_order::INPUT_LEVEL;
+use switch_paths::Graph;
 use ternary::Steps;
 
 /// The groups that were found, and their members.

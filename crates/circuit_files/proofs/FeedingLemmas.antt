@@ -5,10 +5,10 @@ use Rattle.std.proofs.lemmas.List.{take_all, take-append-le}
 use Rattle.std.specs.Io.KnownBytes.{prepend_known, IsAtEnd}
 use Rattle.line_words.specs.Files.{front_of}
 use Rattle.line_words.specs.declared.files.TheConstants.{MOST_FILE_BYTES}
-use Rattle.port_edge.specs.Ports.{Opens, with_name}
-use Rattle.port_edge.specs.Reading.{TakesFront}
-use Rattle.port_edge.specs.Taken.{AreAtMost, Taken, TakesAtMost, TakesFiles, with_files, with_more}
-use Rattle.port_edge.proofs.TakenLemmas.{takes_more, with_files-read, with_more-twice}
+use Rattle.ports.specs.Ports.{Opens, with_name}
+use Rattle.ports.specs.Reading.{TakesFront}
+use Rattle.ports.specs.Taken.{AreAtMost, Taken, TakesAtMost, TakesFiles, with_files, with_more}
+use Rattle.ports.proofs.TakenLemmas.{takes_more, with_files-read, with_more-twice}
 use Rattle.sim_read.specs.Standing.{GoesOn, ReaderData, StandsFor}
 use Rattle.sim_read.proofs.StandingLemmas.{goes_on-both, goes_on-none}
 use Rattle.netlist.specs.Circuits.{CircuitData, IsCircuit}

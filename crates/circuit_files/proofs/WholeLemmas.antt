@@ -2,7 +2,7 @@
 use Rattle.std.proofs.Common.{◌≡◌, ℕ, List, [], ◌∷◌, ◌++◌, length, map, Option, None, Some, IfSome, refl, sym, ap, ◌∙◌, append_assoc}
 use Rattle.std.proofs.lemmas.List.{map-append}
 use Rattle.line_words.specs.Files.{front_of}
-use Rattle.port_edge.specs.Taken.{Taken, with_files}
+use Rattle.ports.specs.Taken.{Taken, with_files}
 use Rattle.circuit_files.specs.Wholes.{ReadsWhole}
 
 -- a file whose front was read was read whole

@@ -2,8 +2,8 @@
 use Rattle.std.specs.Prelude.{◌≡◌, ℕ, List, [], ◌∷◌, length, Option, IfSome}
 use Rattle.std.specs.Io.KnownBytes.{prepend_known, IsAtEnd}
 use Rattle.line_words.specs.Files.{front_of}
-use Rattle.port_edge.specs.Reading.{TakesFront}
-use Rattle.port_edge.specs.Taken.{Taken, with_files, with_more}
+use Rattle.ports.specs.Reading.{TakesFront}
+use Rattle.ports.specs.Taken.{Taken, with_files, with_more}
 use Rattle.sim_read.specs.Standing.{GoesOn, ReaderData}
 
 -- so many bytes were taken from what is left and fed to the reader, none of them only at the end

@@ -1,6 +1,6 @@
 -- Whether a call starts the file of a name.
 use Rattle.std.specs.Prelude.{◌≡◌, ℕ, ◌⊎◌, List, Option, Result, Ok, Err}
-use Rattle.port_edge.specs.Ports.{with_name}
+use Rattle.ports.specs.Ports.{with_name}
 use Rattle.run_ends.specs.declared.stop.Stop.{Stop}
 
 -- the started names, if they are told

@@ -1,7 +1,7 @@
 -- Files that are read whole: each one to its end, or to the first byte too many.
 use Rattle.std.specs.Prelude.{◌≡◌, ℕ, List, length, map}
 use Rattle.line_words.specs.Files.{front_of}
-use Rattle.port_edge.specs.Taken.{Taken, with_files}
+use Rattle.ports.specs.Taken.{Taken, with_files}
 
 -- each of these files was started, and read to its end or to the first byte too many
 abbrev pub ReadsWhole : Taken → Taken → (List ℕ → List ℕ) → List (List ℕ) → Type 0

@@ -1,8 +1,8 @@
 //! Reading files, and the netlist or the deck that one holds.
 
 ghost use Rattle.std.specs.Prelude.{◌≡◌, ◌≢◌, ◌+◌, ◌<◌, ◌≤◌, ℕ, List, [], ◌∷◌, length, IfSome, IfOk, IfErr, OnOk, OnErr, vec_len};
-ghost use Rattle.port_edge.specs.Ports.{Opens};
-ghost use Rattle.port_edge.specs.Taken.{TakesAtMost, TakesFiles, with_files, with_more};
+ghost use Rattle.ports.specs.Ports.{Opens};
+ghost use Rattle.ports.specs.Taken.{TakesAtMost, TakesFiles, with_files, with_more};
 ghost use Rattle.line_words.specs.Files as file;
 ghost use Rattle.netlist.specs.Circuits.{IsCircuit, HasVisibleNames};
 ghost use Rattle.sim_read.specs.Meaning.{netlist_of};
@@ -13,7 +13,7 @@ ghost use Rattle.circuit_files.specs.Words.{FeedsFile, FeedsFront, FeedsPiece, R
 
 use line_words::MOST_FILE_BYTES;
 use netlist::Circuit;
-use port_edge::{Files, read_front};
+use ports::{Files, read_front};
 use refusal_words::card_at;
 use run_ends::Stop;
 use sim_read::{NetRefusal, Reader};

@@ -6,9 +6,9 @@ use Rattle.std.specs.List.{range_with_len}
 use Rattle.std.specs.List.Sorted.{IsStrictlyIncreasing}
 use Rattle.std.proofs.lemmas.Bool.{cases_eq, cases_lt, eq-eqb, ne_eqb, and_from}
 use Rattle.std.proofs.lemmas.List.{get_or-set_same, get_or-set_other, get_or_past, get_or-map, length-map, length-set, map-set, append-nil}
-use Rattle.path_meaning.specs.declared.switching.Switch.{Switch}
-use Rattle.path_meaning.specs.Graphs.{GraphData, nodes, place_at}
-use Rattle.path_meaning.specs.Path.{Joins}
+use Rattle.switch_paths.specs.declared.switching.Switch.{Switch}
+use Rattle.switch_paths.specs.Graphs.{GraphData, nodes, place_at}
+use Rattle.switch_paths.specs.Path.{Joins}
 use Rattle.group_meaning.proofs.LinkLemmas.{Joins-sym}
 use Rattle.group_meaning.proofs.AscendingLists.{contains-picked, picked-below, picked-ascends}
 use Rattle.circuit_lint.specs.Conducting.{IsClosedAcross, is_always_closed}

@@ -2,8 +2,8 @@
 use Rattle.std.proofs.Common.{◌≡◌, ℕ, ◌<◌, ◌≤◌, List, [], ◌∷◌, All, Some, None, unwrap_or, nat_eq, refl, ap, ◌∙◌, arith}
 use Rattle.std.proofs.lemmas.Bool.{ne_eqb, cond-false}
 use Rattle.std.proofs.lemmas.List.Elements.{All-head, All-tail}
-use Rattle.path_meaning.specs.declared.TheConstants.{GND, VDD}
-use Rattle.path_meaning.specs.Graphs.{nodes}
+use Rattle.switch_paths.specs.declared.TheConstants.{GND, VDD}
+use Rattle.switch_paths.specs.Graphs.{nodes}
 use Rattle.netlist.specs.Names.{first_name}
 use Rattle.netlist.specs.Circuits.{CircuitData, IsCircuit, called}
 

@@ -6,8 +6,8 @@ use Rattle.std.proofs.lemmas.Bool.{cases_eq, cases_lt}
 use Rattle.std.proofs.lemmas.List.{get_or-set_other, length-set, length-replicate, get_or-replicate, get_or_past}
 use Rattle.std.proofs.lemmas.List.Sums.{sum_by-cons}
 use Rattle.std.proofs.lemmas.Grind.{get_or-set_at}
-use Rattle.path_meaning.specs.declared.TheConstants.{GND, RAILS}
-use Rattle.path_meaning.specs.Graphs.{GraphData, nodes, IsStorage}
+use Rattle.switch_paths.specs.declared.TheConstants.{GND, RAILS}
+use Rattle.switch_paths.specs.Graphs.{GraphData, nodes, IsStorage}
 use Rattle.circuit_lint.specs.Conducting.{IsClosedAcross}
 use Rattle.circuit_lint.specs.Shorts.{LeadsDown}
 use Rattle.circuit_lint.specs.Distances.{distance_at, IsSearched, HasSpread, Keeps, IsFound, AreDistances}

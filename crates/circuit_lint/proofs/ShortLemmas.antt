@@ -6,10 +6,10 @@ use Rattle.std.specs.List.Sorted.{IsStrictlyIncreasing}
 use Rattle.std.proofs.lemmas.Bool.{cases_lt}
 use Rattle.std.proofs.lemmas.List.{get_or-map, length-map}
 use Rattle.std.proofs.lemmas.List.Elements.{Contains-get_or, All-contains}
-use Rattle.path_meaning.specs.declared.switching.Switch.{Switch}
-use Rattle.path_meaning.specs.declared.TheConstants.{GND, VDD}
-use Rattle.path_meaning.specs.Graphs.{GraphData, IsStorage}
-use Rattle.path_meaning.specs.Path.{Joins}
+use Rattle.switch_paths.specs.declared.switching.Switch.{Switch}
+use Rattle.switch_paths.specs.declared.TheConstants.{GND, VDD}
+use Rattle.switch_paths.specs.Graphs.{GraphData, IsStorage}
+use Rattle.switch_paths.specs.Path.{Joins}
 use Rattle.group_meaning.specs.Groups.{Group, IsGroup, AreGroups, TouchesAny}
 use Rattle.group_meaning.proofs.GroupLemmas.{member_storage}
 use Rattle.group_meaning.proofs.UniqueGroups.{same_by_member}

@@ -7,8 +7,8 @@ use Rattle.std.proofs.Common.{◌≡◌, ℕ, zero, suc, ◌+◌, ◌<◌, ◌�
 use Rattle.std.proofs.lemmas.Bool.{cases_lt, cases_order, cases_Bool, ltb-true, ltb-false, eqb-true, eqb-false, leb-true, leb-false, or_cases, or_parts, and_parts, and_cases, cond-true, cond-false}
 use Rattle.std.proofs.lemmas.List.{take_more, append-nil, length-take-le, get_or-take}
 use Rattle.std.proofs.lemmas.List.Elements.{Contains-push_cases, Contains-append_cases, Contains-append_left, Contains-append_right, Contains-push}
-use Rattle.path_meaning.specs.declared.TheConstants.{GND, VDD}
-use Rattle.path_meaning.specs.Graphs.{GraphData}
+use Rattle.switch_paths.specs.declared.TheConstants.{GND, VDD}
+use Rattle.switch_paths.specs.Graphs.{GraphData}
 use Rattle.group_meaning.specs.Groups.{Group}
 use Rattle.circuit_lint.specs.declared.starts.Start.{Start}
 use Rattle.circuit_lint.specs.Conducting.{IsClosedAcross}

@@ -8,8 +8,8 @@ use Rattle.std.proofs.lemmas.List.Elements.{All-get_or}
 use Rattle.std.proofs.lemmas.Option.{slice_get_within, get_or_from_slice_get}
 use Rattle.std.proofs.lemmas.List.Sums.{count_by_more_yes, count_by_more_no, count_by-le-length}
 use Rattle.std.proofs.lemmas.List.Folds.{list_any_more}
-use Rattle.path_meaning.specs.declared.switching.Switch.{Switch}
-use Rattle.path_meaning.specs.Graphs.{GraphData, nodes, place_at}
+use Rattle.switch_paths.specs.declared.switching.Switch.{Switch}
+use Rattle.switch_paths.specs.Graphs.{GraphData, nodes, place_at}
 use Rattle.netlist.specs.Circuits.{CircuitData, IsCircuit}
 use Rattle.circuit_lint.specs.Nodes.{has_gate, has_end, AreGatesTo, AreEndsTo}
 use Rattle.circuit_lint.specs.Supplies.{is_supply_name, names_supply, AreFirstSupplies}

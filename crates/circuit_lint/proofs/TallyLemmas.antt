@@ -6,8 +6,8 @@ use Rattle.std.proofs.lemmas.List.{length-take-le}
 use Rattle.std.proofs.lemmas.List.Sums.{count_by_more_yes, count_by_more_no, count_by-le-length, sum_by-cons}
 use Rattle.std.proofs.lemmas.List.Folds.{list_any_more}
 use Rattle.indexmap.specs.IndexMap.{Updates}
-use Rattle.path_meaning.specs.declared.switching.Switch.{Switch}
-use Rattle.path_meaning.specs.Graphs.{GraphData, place_at}
+use Rattle.switch_paths.specs.declared.switching.Switch.{Switch}
+use Rattle.switch_paths.specs.Graphs.{GraphData, place_at}
 use Rattle.circuit_lint.specs.declared.counted.Counted.{Counted}
 use Rattle.circuit_lint.specs.Dead.{is_dead, likeness, same_switch, is_dead_like, is_first_dead, alike_count, dead_at}
 use Rattle.circuit_lint.specs.Tallies.{Tally, count_at, some_number, number_of, AreTallied, AreLeft, taken_of, LeavesOthers, counted_at}

@@ -7,7 +7,7 @@ use Rattle.std.proofs.lemmas.List.Elements.{All-contains}
 use Rattle.std.proofs.lemmas.List.Kept.{AllPairs-from_increasing}
 use Rattle.list_facts.proofs.ContainsLemmas.{Contains-cons_cases, Contains-cons_first, Contains-cons_later}
 use Rattle.netlist.specs.Circuits.{CircuitData}
-use Rattle.path_meaning.specs.Graphs.{GraphData}
+use Rattle.switch_paths.specs.Graphs.{GraphData}
 use Rattle.group_meaning.proofs.UniqueGroups.{unique}
 use Rattle.circuit_lint.specs.declared.sides.SideFault.TheVariants.{Undriven, NeverOne, NeverZero, Wide}
 use Rattle.circuit_lint.specs.Sides.{showing}

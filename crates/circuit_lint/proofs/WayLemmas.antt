@@ -2,8 +2,8 @@
 use Rattle.std.proofs.Common.{◌≡◌, ℕ, zero, suc, ◌+◌, ◌<◌, ◌≤◌, inl, inr, List, [], ◌∷◌, ◌++◌, length, get_or, take, Option, Some, refl, sym, ap, ap₂, ◌∙◌, subst, arith, append_assoc, append-nil}
 use Rattle.std.proofs.lemmas.Bool.{cases_lt}
 use Rattle.std.proofs.lemmas.List.{length-take-le, get_or-take, get_or_push, length_push}
-use Rattle.path_meaning.specs.declared.TheConstants.{GND}
-use Rattle.path_meaning.specs.Graphs.{GraphData, IsStorage}
+use Rattle.switch_paths.specs.declared.TheConstants.{GND}
+use Rattle.switch_paths.specs.Graphs.{GraphData, IsStorage}
 use Rattle.circuit_lint.specs.Conducting.{IsClosedAcross}
 use Rattle.circuit_lint.specs.Shorts.{LeadsDown, AreFirst, GoesBefore}
 use Rattle.circuit_lint.specs.Closed.{Lists, list_at, AreClosed}

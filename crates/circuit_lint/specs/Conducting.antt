@@ -1,11 +1,11 @@
 -- Switches that the rails alone decide: Vdd is 1 and Gnd is 0 in each state, so a gate at a rail closes its switch always or never.
 use Rattle.std.specs.Prelude.{◌≡◌, ℕ, Bool, true, false, ◌==◌, Some}
-use Rattle.path_meaning.specs.declared.switching.SwitchKind.{SwitchKind}
-use Rattle.path_meaning.specs.declared.switching.SwitchKind.TheVariants.{NChan, PChan, Always}
-use Rattle.path_meaning.specs.declared.switching.Switch.{Switch}
-use Rattle.path_meaning.specs.declared.TheConstants.{GND, VDD}
-use Rattle.path_meaning.specs.Graphs.{GraphData, place_at}
-use Rattle.path_meaning.specs.Path.{Joins}
+use Rattle.switch_paths.specs.declared.switching.SwitchKind.{SwitchKind}
+use Rattle.switch_paths.specs.declared.switching.SwitchKind.TheVariants.{NChan, PChan, Always}
+use Rattle.switch_paths.specs.declared.switching.Switch.{Switch}
+use Rattle.switch_paths.specs.declared.TheConstants.{GND, VDD}
+use Rattle.switch_paths.specs.Graphs.{GraphData, place_at}
+use Rattle.switch_paths.specs.Path.{Joins}
 
 -- what holds of a depletion switch, and of an n-channel and of a p-channel one if its gate is this node
 abbrev pub is_kept : SwitchKind → ℕ → Bool → ℕ → ℕ → Bool

@@ -2,9 +2,9 @@
 use Rattle.std.specs.Prelude.{ℕ, min, max, Bool, false, not, ◌&&◌, ◌||◌, ◌==◌, List, length, take, filter_map, count_by, Option, Some, None, if◌then◌else◌}
 use Rattle.std.specs.List.{list_any, range_with_len}
 use Rattle.strength_order.specs.declared.TheConstants.{LEAST_SWITCH_LEVEL}
-use Rattle.path_meaning.specs.declared.switching.Switch.{Switch}
-use Rattle.path_meaning.specs.contracts.switching.SwitchPartialEq.TheImpl as switches
-use Rattle.path_meaning.specs.Graphs.{GraphData, place_at}
+use Rattle.switch_paths.specs.declared.switching.Switch.{Switch}
+use Rattle.switch_paths.specs.contracts.switching.SwitchPartialEq.TheImpl as switches
+use Rattle.switch_paths.specs.Graphs.{GraphData, place_at}
 use Rattle.circuit_lint.specs.declared.counted.Counted.{Counted}
 use Rattle.circuit_lint.specs.Conducting.{is_never_closed}
 

@@ -1,7 +1,7 @@
 -- How far Gnd is from each node, by the number of always closed switches on the way down; and the search from Gnd that finds it.
 use Rattle.std.specs.Prelude.{◌≡◌, ℕ, ◌+◌, ◌<◌, ◌≤◌, List, ◌++◌, length, count_by, is_none, slice_index, slice_index_or, Option, Some, None}
-use Rattle.path_meaning.specs.declared.TheConstants.{GND}
-use Rattle.path_meaning.specs.Graphs.{GraphData, nodes, IsStorage}
+use Rattle.switch_paths.specs.declared.TheConstants.{GND}
+use Rattle.switch_paths.specs.Graphs.{GraphData, nodes, IsStorage}
 use Rattle.circuit_lint.specs.Conducting.{IsClosedAcross}
 use Rattle.circuit_lint.specs.Shorts.{LeadsDown, GoesBefore}
 

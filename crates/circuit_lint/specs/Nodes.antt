@@ -1,9 +1,9 @@
 -- Nodes that nothing can give a state, and nodes that nothing uses.
 use Rattle.std.specs.Prelude.{◌≡◌, ℕ, ◌<◌, Bool, false, not, ◌&&◌, ◌||◌, ◌==◌, nat_lt, nat_le, List, length, take, filter_map, count_by, slice_index, slice_index_or, Option, Some, None, if◌then◌else◌}
 use Rattle.std.specs.List.{list_any, range_with_len}
-use Rattle.path_meaning.specs.declared.switching.Switch.{Switch}
-use Rattle.path_meaning.specs.declared.TheConstants.{RAILS}
-use Rattle.path_meaning.specs.Graphs.{GraphData, nodes, level_of, is_storage_level}
+use Rattle.switch_paths.specs.declared.switching.Switch.{Switch}
+use Rattle.switch_paths.specs.declared.TheConstants.{RAILS}
+use Rattle.switch_paths.specs.Graphs.{GraphData, nodes, level_of, is_storage_level}
 use Rattle.circuit_lint.specs.declared.counted.Counted.{Counted}
 
 -- all nodes of a graph, ascending

@@ -2,8 +2,8 @@
 -- switches between the rails.
 use Rattle.std.specs.Prelude.{◌≡◌, ℕ, ◌<◌, ◌⊎◌, ⊤, List, [], ◌∷◌, length, map, slice_index, All, Contains}
 use Rattle.std.specs.List.Sorted.{IsStrictlyIncreasing}
-use Rattle.path_meaning.specs.declared.TheConstants.{GND, VDD}
-use Rattle.path_meaning.specs.Graphs.{GraphData, IsStorage}
+use Rattle.switch_paths.specs.declared.TheConstants.{GND, VDD}
+use Rattle.switch_paths.specs.Graphs.{GraphData, IsStorage}
 use Rattle.group_meaning.specs.Groups.{Group, IsGroup}
 use Rattle.circuit_lint.specs.Conducting.{IsClosedAcross}
 

@@ -2,9 +2,9 @@
 -- large for a text.
 use Rattle.std.specs.Prelude.{ℕ, Bool, false, not, ◌&&◌, ◌||◌, nat_lt, nat_le, is_some, List, length, map, filter, Option, Some, None}
 use Rattle.std.specs.List.{list_any}
-use Rattle.path_meaning.specs.declared.switching.Switch.{Switch}
-use Rattle.path_meaning.specs.declared.TheConstants.{GND, VDD, RAILS}
-use Rattle.path_meaning.specs.Graphs.{GraphData, level_of, is_storage_level, place_at}
+use Rattle.switch_paths.specs.declared.switching.Switch.{Switch}
+use Rattle.switch_paths.specs.declared.TheConstants.{GND, VDD, RAILS}
+use Rattle.switch_paths.specs.Graphs.{GraphData, level_of, is_storage_level, place_at}
 use Rattle.group_meaning.specs.Groups.{Group, id_of}
 use Rattle.group_text.specs.Texts.{size_fault}
 use Rattle.circuit_lint.specs.declared.sides.Sides.{Sides}

@@ -1,7 +1,7 @@
 -- Where lists that join the rails begin: at a switch at Vdd from which the way down is shortest, within each group.
 use Rattle.std.specs.Prelude.{◌≡◌, ℕ, ◌<◌, ◌≤◌, ◌⊎◌, ◌&&◌, ◌||◌, ◌==◌, nat_lt, nat_le, List, Contains, Option, Some, None, if◌then◌else◌}
-use Rattle.path_meaning.specs.declared.TheConstants.{GND, VDD}
-use Rattle.path_meaning.specs.Graphs.{GraphData}
+use Rattle.switch_paths.specs.declared.TheConstants.{GND, VDD}
+use Rattle.switch_paths.specs.Graphs.{GraphData}
 use Rattle.group_meaning.specs.Groups.{Group}
 use Rattle.circuit_lint.specs.declared.starts.Start.{Start}
 use Rattle.circuit_lint.specs.Conducting.{IsClosedAcross}

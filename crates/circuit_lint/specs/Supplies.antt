@@ -1,8 +1,8 @@
 -- Names that supplies have in netlists, and nodes other than the rails that have one.
 use Rattle.std.specs.Prelude.{◌≡◌, ℕ, ◌<◌, ◌-◌, Bool, true, ◌&&◌, ◌||◌, ◌==◌, nat_lt, nat_le, List, [], ◌∷◌, length, take, drop, codes, position, filter_map, slice_index, slice_index_or, Option, None, if◌then◌else◌}
 use Rattle.std.specs.List.{list_any, list_all, range_with_len}
-use Rattle.path_meaning.specs.declared.TheConstants.{RAILS}
-use Rattle.path_meaning.specs.Graphs.{nodes}
+use Rattle.switch_paths.specs.declared.TheConstants.{RAILS}
+use Rattle.switch_paths.specs.Graphs.{nodes}
 use Rattle.netlist.specs.Names.{spells}
 use Rattle.netlist.specs.Circuits.{CircuitData}
 

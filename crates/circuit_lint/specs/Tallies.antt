@@ -3,7 +3,7 @@ use Rattle.std.specs.Prelude.{◌≡◌, ℕ, ◌==◌, List, take, count_by, Op
 use Rattle.std.specs.List.{list_any}
 use Rattle.indexmap.specs.IndexMap.{IndexMap, get}
 use Rattle.table_keys.specs.declared.TableKeys.{TableKeys}
-use Rattle.path_meaning.specs.declared.switching.Switch.{Switch}
+use Rattle.switch_paths.specs.declared.switching.Switch.{Switch}
 use Rattle.circuit_lint.specs.declared.counted.Counted.{Counted}
 use Rattle.circuit_lint.specs.Dead.{same_switch, is_dead, likeness, is_dead_like}
 

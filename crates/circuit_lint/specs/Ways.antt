@@ -1,8 +1,8 @@
 -- Ways down from Vdd, switch by switch: each step goes over the first switch from which the rest is shortest.
 use Rattle.std.specs.Prelude.{◌≡◌, ℕ, ◌<◌, ◌≤◌, List, [], ◌∷◌, ◌++◌, length, map, slice_index, slice_index_or, Contains, Option, Some, Vec}
 use Rattle.std.specs.declared.alloc.Global.{Global}
-use Rattle.path_meaning.specs.declared.TheConstants.{VDD}
-use Rattle.path_meaning.specs.Graphs.{GraphData}
+use Rattle.switch_paths.specs.declared.TheConstants.{VDD}
+use Rattle.switch_paths.specs.Graphs.{GraphData}
 use Rattle.circuit_lint.specs.Conducting.{IsClosedAcross}
 use Rattle.circuit_lint.specs.Distances.{distance_at, IsFirstDown}
 

@@ -1,12 +1,12 @@
 //! The always closed switches at each node.
 
 ghost use Rattle.std.specs.Prelude.{◌≡◌, ◌+◌, ◌<◌, length, IfOk, OnOk};
-ghost use Rattle.path_meaning.specs.Graphs.{nodes};
+ghost use Rattle.switch_paths.specs.Graphs.{nodes};
 ghost use Rattle.circuit_lint.specs.Closed.{AreClosedTo, AreClosed, HasPut, list_at};
 
 use crate::conducting::is_always_closed;
-use path_meaning::Graph;
 use std::alloc::{AllocError, Global};
+use switch_paths::Graph;
 
 /// The places of the always closed switches at each node of a graph, in ascending order.
 pub(crate) fn closed_switches(alloc: Global, graph: &Graph) -> Result<Vec<Vec<usize>>, AllocError>

@@ -1,10 +1,10 @@
 //! Switches that the rails alone decide.
 
 ghost use Rattle.std.specs.Prelude.{◌≡◌, ℕ, ◌<◌, length, Some, IfSome};
-ghost use Rattle.path_meaning.specs.Graphs.{nodes};
+ghost use Rattle.switch_paths.specs.Graphs.{nodes};
 ghost use Rattle.circuit_lint.specs.Conducting as spec;
 
-use path_meaning::{GND, Graph, Switch, SwitchKind, VDD};
+use switch_paths::{GND, Graph, Switch, SwitchKind, VDD};
 
 /// Whether a switch is closed in each state.
 pub(crate) fn is_always_closed(switch: Switch) -> bool

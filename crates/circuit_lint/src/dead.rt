@@ -8,9 +8,9 @@ use crate::conducting::is_never_closed;
 use crate::counted::Counted;
 use crate::lists::push_some;
 use indexmap::IndexMap;
-use path_meaning::{Graph, Switch};
 use std::alloc::{AllocError, Global};
 use strength_order::LEAST_SWITCH_LEVEL;
+use switch_paths::{Graph, Switch};
 use table_keys::TableKeys;
 
 // Of each likeness of dead switches how many there are.

@@ -1,8 +1,8 @@
 //! How far Gnd is from each node, over always closed switches and storage nodes.
 
 ghost use Rattle.std.specs.Prelude.{◌≡◌, ◌<◌, ◌≤◌, ◌+◌, ℕ, length, slice_index, slice_set, true, false, Some, None, Contains, IfOk, OnOk};
-ghost use Rattle.path_meaning.specs.Graphs.{nodes, IsStorage};
-ghost use Rattle.path_meaning.specs.declared.TheConstants.{RAILS};
+ghost use Rattle.switch_paths.specs.Graphs.{nodes, IsStorage};
+ghost use Rattle.switch_paths.specs.declared.TheConstants.{RAILS};
 ghost use Rattle.circuit_lint.specs.Conducting.{IsClosedAcross};
 ghost use Rattle.circuit_lint.specs.Closed.{AreClosed};
 ghost use Rattle.circuit_lint.specs.Distances.{AreDistances, IsSearched, HasSpread, Keeps, IsFound, distance_at};
@@ -10,9 +10,9 @@ ghost use Rattle.circuit_lint.specs.Distances.{AreDistances, IsSearched, HasSpre
 use crate::closed::closed_at;
 use crate::conducting::across;
 use crate::lists::no_numbers;
-use path_meaning::{GND, Graph};
 use std::alloc::{AllocError, Global};
 use strength_order::INPUT_LEVEL;
+use switch_paths::{GND, Graph};
 
 /// What a search from Gnd has found: of each node its distance, and the found nodes in order.
 #[derive(Drop)]

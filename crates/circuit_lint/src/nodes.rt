@@ -1,14 +1,14 @@
 //! Nodes that nothing can give a state, and nodes that nothing uses.
 
 ghost use Rattle.std.specs.Prelude.{◌≡◌, ◌+◌, ◌^◌, ◌<◌, true, length, slice_index, slice_set, Some, None, IfOk, if◌then◌else◌};
-ghost use Rattle.path_meaning.specs.Graphs.{nodes as count_of};
+ghost use Rattle.switch_paths.specs.Graphs.{nodes as count_of};
 ghost use Rattle.circuit_lint.specs.Nodes as spec;
 
 use crate::counted::Counted;
 use crate::lists::push_some;
-use path_meaning::{Graph, RAILS};
 use std::alloc::{AllocError, Global};
 use strength_order::INPUT_LEVEL;
+use switch_paths::{Graph, RAILS};
 
 // Of each node how many switches it is the gate of, and whether it is an end of one.
 #[derive(Drop)]

@@ -2,8 +2,8 @@
 
 ghost use Rattle.std.specs.Prelude.{◌≡◌, ◌<◌, ◌≤◌, ℕ, length, map, Some, All, Contains, IfOk, IfSome, IfNone, OnOk};
 ghost use Rattle.std.specs.List.Sorted.{IsStrictlyIncreasing};
-ghost use Rattle.path_meaning.specs.Graphs.{nodes, IsStorage};
-ghost use Rattle.path_meaning.specs.declared.TheConstants.{RAILS, GND, VDD};
+ghost use Rattle.switch_paths.specs.Graphs.{nodes, IsStorage};
+ghost use Rattle.switch_paths.specs.declared.TheConstants.{RAILS, GND, VDD};
 ghost use Rattle.group_meaning.specs.Groups.{AreGroups, id_of};
 ghost use Rattle.channel_groups.specs.Grouping.{IsId};
 ghost use Rattle.circuit_lint.specs.Conducting.{IsClosedAcross};
@@ -17,8 +17,8 @@ use crate::conducting::across;
 use crate::distances::distances;
 use crate::starts::starts_of;
 use channel_groups::{GroupId, Groups};
-use path_meaning::{Graph, VDD};
 use std::alloc::{AllocError, Global};
+use switch_paths::{Graph, VDD};
 
 /// The lists of always closed switches that join the rails, in ascending order: of each group the shortest,
 /// and of these the first by numbers, and single switches between the rails.

@@ -1,7 +1,7 @@
 //! What is at the ends of a group's switches.
 
 ghost use Rattle.std.specs.Prelude.{◌≡◌, ◌<◌, map, filter, Some, None, IfOk, All, if◌then◌else◌};
-ghost use Rattle.path_meaning.specs.Graphs.{nodes, place_at};
+ghost use Rattle.switch_paths.specs.Graphs.{nodes, place_at};
 ghost use Rattle.group_meaning.specs.Groups.{AreGroups, id_of};
 ghost use Rattle.channel_groups.specs.Grouping.{IsId};
 ghost use Rattle.circuit_lint.specs.Sides as spec;
@@ -10,9 +10,9 @@ ghost use Rattle.circuit_lint.specs.Nodes as of_nodes;
 use crate::lists::push_some;
 use channel_groups::{Group, GroupId, Groups};
 use group_text::{MOST_MEMBERS, MOST_SWITCHES};
-use path_meaning::{GND, Graph, RAILS, Switch, VDD};
 use std::alloc::{AllocError, Global};
 use strength_order::INPUT_LEVEL;
+use switch_paths::{GND, Graph, RAILS, Switch, VDD};
 
 /// Of a group its least node, how many nodes and switches it has, and whether some switch of it has an end
 /// at Gnd, at Vdd, and at another input node.

@@ -2,7 +2,7 @@
 
 ghost use Rattle.std.specs.Prelude.{◌≡◌, ◌<◌, ℕ, length, map, option_map, Some, All, Contains, IfOk, IfSome, OnOk};
 ghost use Rattle.std.specs.List.Sorted.{IsStrictlyIncreasing};
-ghost use Rattle.path_meaning.specs.Graphs.{nodes};
+ghost use Rattle.switch_paths.specs.Graphs.{nodes};
 ghost use Rattle.group_meaning.specs.Groups.{AreGroups, id_of};
 ghost use Rattle.channel_groups.specs.Grouping.{IsId};
 ghost use Rattle.circuit_lint.specs.Conducting.{IsClosedAcross};
@@ -11,8 +11,8 @@ ghost use Rattle.circuit_lint.specs.Starts.{IsStartAt, FindsStart, AddsStarts, A
 use crate::conducting::across;
 use crate::lists::push_some;
 use channel_groups::{GroupId, Groups, ascending};
-use path_meaning::{GND, Graph, VDD};
 use std::alloc::{AllocError, Global};
+use switch_paths::{GND, Graph, VDD};
 
 /// A switch at Vdd from which a way leads down: its place, and how many switches are behind it.
 #[derive(Clone, Copy, Debug, PartialEq, Eq)]

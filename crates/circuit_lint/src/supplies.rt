@@ -3,14 +3,14 @@
 ghost use Rattle.std.specs.Prelude.{◌≡◌, ◌+◌, ◌<◌, length, map, None, Some, unwrap_or, slice_index_or, slice_set, IfOk};
 ghost use Rattle.std.specs.Char.{to_ascii_lowercase};
 ghost use Rattle.std.specs.List.{list_all};
-ghost use Rattle.path_meaning.specs.Graphs.{nodes};
+ghost use Rattle.switch_paths.specs.Graphs.{nodes};
 ghost use Rattle.netlist.specs.Circuits.{IsCircuit};
 ghost use Rattle.circuit_lint.specs.Supplies as spec;
 
 use crate::lists::{no_numbers, push_some};
 use netlist::Circuit;
-use path_meaning::RAILS;
 use std::alloc::{AllocError, Global};
+use switch_paths::RAILS;
 
 /// The places of the names of supplies, among the names in use: of each node but the rails the first one, by
 /// ascending node.

@@ -1,6 +1,6 @@
 -- Which texts an analyst was given if it was asked for the new ones and nothing was kept: the distinct texts, or a prefix of them.
 use Rattle.std.proofs.Common.{◌≡◌, ℕ, List, [], ◌++◌, map, None, Result, Ok, Err, OnErr, refl, sym, ap, ◌∙◌, append_assoc, append-nil}
-use Rattle.path_meaning.specs.Graphs.{GraphData}
+use Rattle.switch_paths.specs.Graphs.{GraphData}
 use Rattle.group_meaning.specs.Groups.{Group, AreGroups}
 use Rattle.group_meaning.proofs.UniqueGroups.{unique}
 use Rattle.group_text.specs.Texts.{GroupTextData, text_of_group}

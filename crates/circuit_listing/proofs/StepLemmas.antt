@@ -6,10 +6,10 @@ use Rattle.std.proofs.lemmas.List.{get_or-map, get_or_default, length-map}
 use Rattle.ternary.specs.declared.tern.Tern.{Tern}
 use Rattle.ternary.specs.declared.tern.Tern.TheVariants.{Zero, Unk}
 use Rattle.strength_order.specs.declared.TheConstants.{INPUT_LEVEL}
-use Rattle.path_meaning.specs.Switching.{state_at}
-use Rattle.path_meaning.specs.Graphs.{GraphData, IsWired, nodes, level_of}
-use Rattle.path_meaning.specs.Step.{IsResponse, IsStep}
-use Rattle.path_meaning.proofs.InputNodes.{input_response}
+use Rattle.switch_paths.specs.Switching.{state_at}
+use Rattle.switch_paths.specs.Graphs.{GraphData, IsWired, nodes, level_of}
+use Rattle.switch_paths.specs.Step.{IsResponse, IsStep}
+use Rattle.switch_paths.proofs.InputNodes.{input_response}
 use Rattle.group_meaning.specs.Groups.{Group, AreGroups}
 use Rattle.group_meaning.proofs.GroupLemmas.{storage_or_input}
 use Rattle.group_text.specs.Texts.{local_nodes, local_state}
@@ -19,7 +19,7 @@ use Rattle.linear_code.specs.Listing.{ListingData, Entry, is_storage_at, next_of
 use Rattle.straight_code.specs.Parts.{IsMemberAt}
 use Rattle.linear_code.specs.Built.{IsBuilt}
 use Rattle.group_analysis.proofs.ResponseLemmas.{given_response}
-use Rattle.path_meaning.specs.Rails.{IsSound}
+use Rattle.switch_paths.specs.Rails.{IsSound}
 use Rattle.circuit_texts.specs.Parts.{IsPartOf}
 use Rattle.circuit_texts.proofs.MemberLemmas.{member_of, AreMembers-from_groups}
 

@@ -4,14 +4,14 @@ use Rattle.std.specs.Prelude.{◌≡◌, ℕ, ◌≤◌, List, length, map, sum,
 use Rattle.std.specs.List.{range_with_len}
 use Rattle.ternary.specs.declared.tern.Tern.{Tern}
 use Rattle.strength_order.specs.declared.TheConstants.{INPUT_LEVEL}
-use Rattle.path_meaning.specs.Graphs.{GraphData, nodes}
-use Rattle.path_meaning.specs.Step.{IsStep}
+use Rattle.switch_paths.specs.Graphs.{GraphData, nodes}
+use Rattle.switch_paths.specs.Step.{IsStep}
 use Rattle.netlist.specs.Circuits.{CircuitData, called}
 use Rattle.group_meaning.specs.Groups.{Group, AreGroups}
 use Rattle.group_text.specs.Texts.{local_graph}
 use Rattle.linear_code.specs.Listing.{ListingData, IsListingStep}
 use Rattle.group_analysis.specs.Meaning.{bound_of}
-use Rattle.path_meaning.specs.Rails.{IsSound}
+use Rattle.switch_paths.specs.Rails.{IsSound}
 
 -- the bound on the gates of a group
 abbrev pub group_bound : GraphData → Group → ℕ

@@ -6,4 +6,4 @@ pub use Rattle.circuit_listing.specs.Faithful.{IsFaithful}
 pub use Rattle.group_meaning.specs.Groups.{AreGroups, Group}
 pub use Rattle.group_text.specs.FirstTexts.{first_texts}
 pub use Rattle.group_text.specs.Texts.{text_of_group}
-pub use Rattle.path_meaning.specs.Graphs.{nodes}
+pub use Rattle.switch_paths.specs.Graphs.{nodes}

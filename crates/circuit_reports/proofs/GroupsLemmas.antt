@@ -1,7 +1,7 @@
 -- What was told of the report of a circuit's groups is told of the answer to `groups`.
 use Rattle.std.proofs.Common.{◌≡◌, ℕ, inr, List, Option, Ok, refl}
 use Rattle.std.specs.Io.KnownBytes.{append_known}
-use Rattle.port_edge.specs.Sending.{WritesPart}
+use Rattle.ports.specs.Sending.{WritesPart}
 use Rattle.netlist.specs.Circuits.{CircuitData}
 use Rattle.group_report.specs.Report.{IsReport}
 use Rattle.run_ends.specs.declared.stop.End.TheVariants as ended

@@ -1,7 +1,7 @@
 -- What was told of a circuit's findings is told of the answer to `lint`.
 use Rattle.std.proofs.Common.{◌≡◌, ℕ, inr, List, Option, Ok, refl, sym, ap, subst, ◌∙◌}
 use Rattle.std.specs.Io.KnownBytes.{append_known}
-use Rattle.port_edge.specs.Sending.{WritesPart}
+use Rattle.ports.specs.Sending.{WritesPart}
 use Rattle.netlist.specs.Circuits.{CircuitData}
 use Rattle.circuit_lint.specs.Findings.{FindingsData, AreFindings}
 use Rattle.circuit_lint.specs.Lines.{text_of}

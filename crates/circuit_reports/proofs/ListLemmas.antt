@@ -1,9 +1,9 @@
 -- What was told of a circuit's listing, or of a group that is too large, is told of the answer to `compile`.
 use Rattle.std.proofs.Common.{◌≡◌, ℕ, ◌⊎◌, inl, inr, List, ◌++◌, Option, Result, Ok, Err, refl, sym, ap, subst, ◌∙◌}
 use Rattle.std.specs.Io.KnownBytes.{append_known}
-use Rattle.port_edge.specs.Sending.{WritesPart}
+use Rattle.ports.specs.Sending.{WritesPart}
 use Rattle.netlist.specs.Circuits.{CircuitData}
-use Rattle.wave_print.specs.declared.faults.FaultPlace.TheVariants.{NetWhole}
+use Rattle.printed_lines.specs.declared.faults.FaultPlace.TheVariants.{NetWhole}
 use Rattle.group_meaning.specs.Groups.{Group, AreGroups}
 use Rattle.group_text.specs.Texts.{GroupTextData}
 use Rattle.linear_code.specs.Listing.{ListingData, IsListing}

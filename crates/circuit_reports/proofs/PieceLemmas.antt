@@ -1,8 +1,8 @@
 -- Sending the text of a listing piece by piece: what was sent so far and what is left are the text.
 use Rattle.std.proofs.Common.{◌≡◌, ◌<◌, ℕ, inr, Bool, true, false, List, [], ◌++◌, length, Option, refl, sym, ap, subst, ◌∙◌, append-nil}
 use Rattle.std.specs.Io.KnownBytes.{append_known}
-use Rattle.port_edge.specs.Sending.{Sends, WritesPart}
-use Rattle.port_edge.proofs.SendingLemmas.{sends_more, sends_part, last_sent, part_longer}
+use Rattle.ports.specs.Sending.{Sends, WritesPart}
+use Rattle.ports.proofs.SendingLemmas.{sends_more, sends_part, last_sent, part_longer}
 use Rattle.linear_code.specs.declared.listing_text.TextPlace.{TextPlace}
 use Rattle.linear_code.specs.Listing.{ListingData}
 use Rattle.linear_code.specs.ListingText.{listing_text}

@@ -1,6 +1,6 @@
 -- What is answered of a circuit alone is one answer; of a compilation the status and the texts that are analysed are determined.
 use Rattle.std.proofs.Common.{◌≡◌, Result, Ok, Err, inl, inr, sym, ap, ◌∙◌}
-use Rattle.path_meaning.specs.Graphs.{GraphData}
+use Rattle.switch_paths.specs.Graphs.{GraphData}
 use Rattle.netlist.specs.Circuits.{CircuitData}
 use Rattle.sim_read.specs.declared.fault.NetRefusal.{NetRefusal}
 use Rattle.spice_cards.specs.declared.fault.DeckRefusal.{DeckRefusal}
@@ -9,7 +9,7 @@ use Rattle.group_report.proofs.ReportLemmas.{report_unique}
 use Rattle.circuit_lint.specs.Findings.{FindingsData}
 use Rattle.circuit_lint.specs.Lines.{text_of}
 use Rattle.circuit_lint.proofs.UniqueFindings.{findings_unique}
-use Rattle.wave_print.specs.declared.faults.FaultPlace.TheVariants.{NetWhole}
+use Rattle.printed_lines.specs.declared.faults.FaultPlace.TheVariants.{NetWhole}
 use Rattle.circuit_texts.specs.declared.texts.BuildFault.{BuildFault}
 use Rattle.circuit_texts.specs.Sizes.{AllFit, TellsTooLarge}
 use Rattle.run_ends.specs.declared.status.Status.TheVariants as status

@@ -1,13 +1,13 @@
 -- What is answered of a circuit alone, and where words, a netlist or a deck are refused.
 use Rattle.std.specs.Prelude.{◌≡◌, ◌⊎◌, ℕ, List, map, length, count_by, is_some, codes, if◌then◌else◌, Result, Ok, Err}
-use Rattle.path_meaning.specs.Graphs.{nodes}
+use Rattle.switch_paths.specs.Graphs.{nodes}
 use Rattle.netlist.specs.Circuits.{CircuitData}
 use Rattle.sim_read.specs.declared.fault.NetRefusal.{NetRefusal}
 use Rattle.spice_cards.specs.declared.fault.DeckRefusal.{DeckRefusal}
 use Rattle.spice_cards.specs.declared.fault.DeckWhat.{DeckWhat}
 use Rattle.spice_cards.specs.Reports.{deck_line_of}
-use Rattle.wave_print.specs.Lines.{check_line_of}
-use Rattle.wave_print.specs.declared.faults.FaultPlace.TheVariants.{Net, NetWhole}
+use Rattle.printed_lines.specs.Lines.{check_line_of}
+use Rattle.printed_lines.specs.declared.faults.FaultPlace.TheVariants.{Net, NetWhole}
 use Rattle.group_meaning.specs.Groups.{Group, AreGroups}
 use Rattle.group_text.specs.Texts.{GroupTextData, text_of_group}
 use Rattle.group_text.specs.FirstTexts.{first_texts}

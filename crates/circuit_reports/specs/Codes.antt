@@ -1,8 +1,8 @@
 -- The codes under which faults of netlists are printed.
 use Rattle.sim_read.specs.declared.fault.NetWhat.{NetWhat}
 use Rattle.sim_read.specs.declared.fault.NetWhat.TheVariants as net
-use Rattle.wave_print.specs.declared.faults.FaultCode.{FaultCode}
-use Rattle.wave_print.specs.declared.faults.FaultCode.TheVariants as code
+use Rattle.printed_lines.specs.declared.faults.FaultCode.{FaultCode}
+use Rattle.printed_lines.specs.declared.faults.FaultCode.TheVariants as code
 
 -- of a refused line of a netlist
 abbrev pub net_code : NetWhat → FaultCode

@@ -3,8 +3,8 @@
 ghost use Rattle.std.specs.Prelude.{◌≡◌};
 ghost use Rattle.circuit_reports.specs.Codes as spec;
 
+use printed_lines::FaultCode;
 use sim_read::NetWhat;
-use wave_print::FaultCode;
 
 /// The code of a refused line of a netlist.
 pub fn net_code(what: NetWhat) -> FaultCode

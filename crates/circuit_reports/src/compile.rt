@@ -1,7 +1,7 @@
 //! What `compile` writes of a circuit.
 
 ghost use Rattle.std.specs.Prelude.{◌≡◌, ◌≢◌, IfOk, IfErr, OnErr};
-ghost use Rattle.port_edge.specs.Sending.{WritesPart};
+ghost use Rattle.ports.specs.Sending.{WritesPart};
 ghost use Rattle.netlist.specs.Circuits.{IsCircuit, HasVisibleNames};
 ghost use Rattle.linear_code.specs.Listing.{IsListing};
 ghost use Rattle.linear_code.specs.TextPlaces.{IsPlace, text_from};
@@ -14,11 +14,11 @@ use circuit_listing::list_circuit;
 use group_analysis::Analyst;
 use linear_code::{Listing, TextPlace};
 use netlist::Circuit;
-use port_edge::{Sink, send};
+use ports::{Sink, send};
+use printed_lines::FaultPlace;
 use run_ends::{End, Stop, refuse_size};
 use std::alloc::Global;
 use table_keys::TableKeys;
-use wave_print::FaultPlace;
 
 // How many bytes of a listing are sent at a time, or the last of a line more.
 const PIECE: usize = 65_536;

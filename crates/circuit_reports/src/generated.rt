@@ -8,7 +8,7 @@ ghost use Rattle.run_ends.specs.Stops.{faults_written, IsRefusedOnce};
 
 use command_line::Sample;
 use net_gen::{GenPart, generate};
-use port_edge::{Sink, send};
+use ports::{Sink, send};
 use run_ends::{End, Stop};
 use std::alloc::Global;
 

@@ -7,7 +7,7 @@ ghost use Rattle.circuit_reports.specs.Answers.{IsLinted, lint_status};
 
 use circuit_lint::{Findings, findings_of, text_of};
 use netlist::Circuit;
-use port_edge::{Sink, send};
+use ports::{Sink, send};
 use run_ends::{End, Stop};
 use std::alloc::Global;
 use table_keys::TableKeys;

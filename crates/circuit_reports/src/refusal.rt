@@ -6,13 +6,13 @@ ghost use Rattle.run_ends.specs.Ends.{IsTold};
 ghost use Rattle.run_ends.specs.Stops.{faults_written, IsRefusedOnce};
 
 use crate::codes::net_code;
-use port_edge::{NotedFile, Sink, send};
+use ports::{NotedFile, Sink, send};
+use printed_lines::FaultPlace;
 use refusal_words::{card_word, net_word};
 use run_ends::{End, Stop, note_cure, refuse};
 use sim_read::NetRefusal;
 use spice_cards::{DeckWhat, cause_text, deck_line};
 use std::alloc::Global;
-use wave_print::FaultPlace;
 
 /// Writes the line of a netlist's refusal. The cure is noted besides, with a word of the refused line, which is
 /// passed for that alone.

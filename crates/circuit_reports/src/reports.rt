@@ -7,12 +7,12 @@ ghost use Rattle.circuit_reports.specs.Answers.{IsCheck, IsGroups};
 
 use group_report::report_groups;
 use netlist::Circuit;
-use path_meaning::Graph;
-use port_edge::{Sink, send};
+use ports::{Sink, send};
+use printed_lines::{CHECK_LINE_ROOM, LineBuf, check_line};
 use run_ends::{End, Stop};
 use std::alloc::Global;
+use switch_paths::Graph;
 use table_keys::TableKeys;
-use wave_print::{CHECK_LINE_ROOM, LineBuf, check_line};
 
 /// Writes the check line of a circuit: how many nodes, transistors and names it has.
 pub fn report_check<S: Sink>(alloc: Global, circuit: &Circuit, out: &mut S) -> Result<End, Stop>

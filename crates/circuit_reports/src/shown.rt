@@ -5,7 +5,7 @@ ghost use Rattle.circuit_reports.specs.Answers.{IsShown};
 ghost use Rattle.run_ends.specs.Ends.{IsTold};
 ghost use Rattle.run_ends.specs.Stops.{faults_written, IsRefusedOnce};
 
-use port_edge::{Sink, send};
+use ports::{Sink, send};
 use run_ends::{End, Stop};
 
 /// Writes a text as it stands.

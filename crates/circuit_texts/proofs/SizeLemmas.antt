@@ -4,7 +4,7 @@ use Rattle.std.proofs.lemmas.Bool.{cases_lt, lt-leb}
 use Rattle.std.proofs.lemmas.List.{get_or-take, length-take-le}
 use Rattle.std.proofs.lemmas.Option.{slice_get_read, slice_get_within, get_or_from_slice_get}
 use Rattle.std.proofs.lemmas.List.Elements.{All-contains_itself}
-use Rattle.path_meaning.specs.Graphs.{GraphData, IsStorage, nodes}
+use Rattle.switch_paths.specs.Graphs.{GraphData, IsStorage, nodes}
 use Rattle.group_meaning.specs.Groups.{Group, IsGroup, id_of}
 use Rattle.group_meaning.proofs.GroupLemmas.{member_storage}
 use Rattle.group_text.specs.declared.text.TextFault.{TextFault}

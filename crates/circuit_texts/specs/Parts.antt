@@ -1,6 +1,6 @@
 -- The parts of a circuit's listing: one for each group of the circuit, in the groups' order.
 use Rattle.std.specs.Prelude.{◌≡◌, ℕ, List}
-use Rattle.path_meaning.specs.Graphs.{GraphData}
+use Rattle.switch_paths.specs.Graphs.{GraphData}
 use Rattle.group_meaning.specs.Groups.{Group}
 use Rattle.group_text.specs.Texts.{GroupTextData, local_nodes, text_of_group}
 use Rattle.straight_code.specs.declared.part.Part.{Part}

@@ -2,8 +2,8 @@
 use Rattle.std.specs.Prelude.{◌↔◌, ℕ, ◌==◌, List, [], ◌∷◌, ◌++◌, Contains, Option, None, Some, nat_eq, if◌then◌else◌}
 use Rattle.std.specs.List.{IsDistinct}
 use Rattle.strength_order.specs.declared.TheConstants.{INPUT_LEVEL}
-use Rattle.path_meaning.specs.declared.switching.Switch.{Switch}
-use Rattle.path_meaning.specs.Graphs.{GraphData, level_of}
+use Rattle.switch_paths.specs.declared.switching.Switch.{Switch}
+use Rattle.switch_paths.specs.Graphs.{GraphData, level_of}
 use Rattle.group_meaning.specs.Groups.{Group}
 use Rattle.group_rest.specs.Rest.{Reads}
 

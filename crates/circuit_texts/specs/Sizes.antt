@@ -1,6 +1,6 @@
 -- Groups that are too large to be analysed.
 use Rattle.std.specs.Prelude.{◌≡◌, ℕ, zero, suc, ◌<◌, nat_le, if◌then◌else◌, List, length, Option, Some, None, slice_get}
-use Rattle.path_meaning.specs.Graphs.{GraphData}
+use Rattle.switch_paths.specs.Graphs.{GraphData}
 use Rattle.group_meaning.specs.Groups.{Group, id_of, AreGroups}
 use Rattle.group_text.specs.declared.text.TextFault.{TextFault}
 use Rattle.group_text.specs.declared.text.TextFault.TheVariants as text

@@ -1,6 +1,6 @@
 -- The groups that have a text, and those that have none, since they are too large.
 use Rattle.std.specs.Prelude.{Bool, not, is_none, List, map, filter}
-use Rattle.path_meaning.specs.Graphs.{GraphData}
+use Rattle.switch_paths.specs.Graphs.{GraphData}
 use Rattle.group_meaning.specs.Groups.{Group}
 use Rattle.group_text.specs.Texts.{GroupTextData, text_of_group}
 use Rattle.circuit_texts.specs.Sizes.{fault_in}

@@ -9,8 +9,8 @@ ghost use Rattle.circuit_texts.specs.Words.{IsFirstTooLarge, fault_in, AreReads,
 use crate::reads::sorted_reads;
 use crate::texts::{BuildFault, GroupTexts, text_or_fault};
 use channel_groups::{GroupId, Groups};
-use path_meaning::Graph;
 use std::alloc::{AllocError, Global};
+use switch_paths::Graph;
 
 /// The texts of the groups with these ids, in the ids' order.
 ///

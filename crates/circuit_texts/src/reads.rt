@@ -2,16 +2,16 @@
 ghost use Rattle.std.specs.Prelude.{◌≡◌, ◌<◌, ◌++◌, length, All, IfOk, OnOk};
 ghost use Rattle.std.specs.List.{AllZip, flat_map};
 ghost use Rattle.std.specs.List.Sorted.{IsPermutation};
-ghost use Rattle.path_meaning.specs.Graphs.{nodes, place_at, FitsPlace};
+ghost use Rattle.switch_paths.specs.Graphs.{nodes, place_at, FitsPlace};
 ghost use Rattle.group_meaning.specs.Groups.{AreGroups};
 ghost use Rattle.group_text.specs.Texts.{firsts};
 ghost use Rattle.circuit_texts.specs.Reading.{AreReads, inputs_of, reads_at};
 
 use crate::chosen::reads_at;
 use channel_groups::Groups;
-use path_meaning::{Graph, Switch};
 use std::alloc::{AllocError, Global};
 use strength_order::INPUT_LEVEL;
+use switch_paths::{Graph, Switch};
 use ternary::NoMemory;
 
 /// The nodes that each group of a graph reads, each once, in the groups' order: the gates of the

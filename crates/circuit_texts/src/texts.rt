@@ -6,8 +6,8 @@ ghost use Rattle.circuit_texts.specs.Words.{IsFirstTooLarge, IsTooLarge, fault_i
 use crate::chosen::texts_at;
 use channel_groups::{Group, Groups};
 use group_text::{GroupText, TextFault, text_of};
-use path_meaning::Graph;
 use std::alloc::{AllocError, Global};
+use switch_paths::Graph;
 use ternary::NoMemory;
 
 /// Why the groups of a circuit have no texts, and so the circuit neither a listing nor a machine.

@@ -2,7 +2,7 @@
 -- none; they stand there still where a build was cut off; and a machine that fits serves as long as they do.
 use Rattle.std.proofs.Common.{◌≡◌, ℕ, ◌⊎◌, inl, inr, true, false, List, [], ◌∷◌, ◌++◌, length, Option, None, Some, is_some, refl, sym, ap, ap₂, subst, ◌∙◌, append-nil, true≢false, arith}
 use Rattle.std.specs.Prelude.{Result, Ok, Err, IfSome, IfOk, OnOk, OnErr}
-use Rattle.path_meaning.specs.Graphs.{GraphData}
+use Rattle.switch_paths.specs.Graphs.{GraphData}
 use Rattle.group_meaning.specs.Groups.{Group}
 use Rattle.group_meaning.proofs.UniqueGroups.{unique}
 use Rattle.group_text.specs.Texts.{GroupTextData}
@@ -15,10 +15,10 @@ use Rattle.circuit_texts.specs.declared.texts.BuildFault.TheVariants as build
 use Rattle.circuit_texts.specs.Sizes.{TellsRefused}
 use Rattle.circuit_texts.specs.Building.{Builds, HasTexts}
 use Rattle.circuit_texts.specs.Told.{told}
-use Rattle.lane_machine.specs.Building.{IsCutInColumns}
-use Rattle.lane_machine.specs.Columns.{column}
-use Rattle.lane_machine.specs.declared.column_machine.ColumnMachine.{ColumnMachine}
-use Rattle.lane_machine.specs.Moving.{lanes_of, highs_of, lows_of, FitsInColumns}
+use Rattle.column_machines.specs.Building.{IsCutInColumns}
+use Rattle.column_machines.specs.Columns.{column_states}
+use Rattle.column_machines.specs.declared.column_machine.ColumnMachine.{ColumnMachine}
+use Rattle.column_machines.specs.Moving.{columns_of, highs_of, lows_of, FitsInColumns}
 use Rattle.column_stage.proofs.FrontLemmas.{kept_alone}
 use Rattle.column_machine_stage.specs.Stages.{StageData, SameStates, StandFirst, Serves, ServesIn, FitsIn, KeepsFit}
 use Rattle.column_machine_stage.specs.Acts.{BuildsColumns}
@@ -94,7 +94,7 @@ module _ (large : ℕ) (g : GraphData) (stage : StageData) (kept : List GroupTex
     (fresh : stage.stale ≡ false) (serves : ServesIn stage g kept) where
   pub made_there : BuildsColumns large g stage stage
   made_there = record {
-    same = record { lanes = refl; each = λ lane inside. refl };
+    same = record { columns = refl; each = λ column inside. refl };
     fits = fits_there g stage.large kept stage.machine there (serves fresh);
     large_is = same;
     fresh = fresh;
@@ -110,10 +110,10 @@ module _ (large : ℕ) (g : GraphData) (stage : StageData) (kept : List GroupTex
 
 module _ (large : ℕ) (g : GraphData) (old new : StageData) (machine : ColumnMachine) (there : new.machine ≡ Some machine) (large_is : new.large ≡ large)
     (fits : FitsInColumns g machine) where
-  pub made_anew : highs_of machine ≡ old.hi → lows_of machine ≡ old.lo → new.lanes ≡ old.lanes → new.hi ≡ highs_of machine → new.lo ≡ lows_of machine →
+  pub made_anew : highs_of machine ≡ old.hi → lows_of machine ≡ old.lo → new.columns ≡ old.columns → new.hi ≡ highs_of machine → new.lo ≡ lows_of machine →
       new.stale ≡ false → BuildsColumns large g old new
-  made_anew highs lows lanes hi lo fresh = record {
-    same = record { lanes = lanes; each = λ lane inside. ap₂ (column lane) (hi ∙ highs) (lo ∙ lows) };
+  made_anew highs lows columns hi lo fresh = record {
+    same = record { columns = columns; each = λ column inside. ap₂ (column_states column) (hi ∙ highs) (lo ∙ lows) };
     fits = record { machine = machine; there = there; fits = fits };
     large_is = large_is;
     fresh = fresh;
@@ -128,11 +128,11 @@ module _ (large : ℕ) (g : GraphData) (old new : StageData) (machine : ColumnMa
       })
 
 -- it has the states of the columns that were handed in
-pub has_states_of : (stage : StageData) (lanes : ℕ) (hi lo : List ℕ) (result : Result (ColumnMachine × ℕ) BuildFault) → lanes ≡ stage.lanes →
-    hi ≡ stage.hi → lo ≡ stage.lo → IfOk result (λ made. (lanes_of made.0 ≡ lanes) × (highs_of made.0 ≡ hi) × (lows_of made.0 ≡ lo)) →
-    IfOk result (λ made. (lanes_of made.0 ≡ stage.lanes) × (highs_of made.0 ≡ stage.hi) × (lows_of made.0 ≡ stage.lo))
-has_states_of stage lanes hi lo (Ok made) count high low (lanes_are, highs, lows) = (lanes_are ∙ count, highs ∙ high, lows ∙ low)
-has_states_of stage lanes hi lo (Err fault) count high low fresh = tt
+pub has_states_of : (stage : StageData) (columns : ℕ) (hi lo : List ℕ) (result : Result (ColumnMachine × ℕ) BuildFault) → columns ≡ stage.columns →
+    hi ≡ stage.hi → lo ≡ stage.lo → IfOk result (λ made. (columns_of made.0 ≡ columns) × (highs_of made.0 ≡ hi) × (lows_of made.0 ≡ lo)) →
+    IfOk result (λ made. (columns_of made.0 ≡ stage.columns) × (highs_of made.0 ≡ stage.hi) × (lows_of made.0 ≡ stage.lo))
+has_states_of stage columns hi lo (Ok made) count high low (columns_are, highs, lows) = (columns_are ∙ count, highs ∙ high, lows ∙ low)
+has_states_of stage columns hi lo (Err fault) count high low fresh = tt
 
 -- where none could be made, the one that was there serves still
 pub serves_cut : (large : ℕ) (g : GraphData) (stage : StageData) (kept later : KeptData) (asked told : List GroupTextData) (fault : BuildFault) →
@@ -159,7 +159,7 @@ module _ (large : ℕ) (g : GraphData) (old new : StageData) where
   pub same_made : (result : Result ℕ BuildFault) → OnOk result (BuildsColumns large g old new) → OnErr result (new ≡ old) → SameStates old new
   same_made (Ok count) made same = made.same
   same_made (Err fault) made same =
-      subst (λ (stage : StageData). SameStates old stage) (sym same) (record { lanes = refl; each = λ lane inside. refl })
+      subst (λ (stage : StageData). SameStates old stage) (sym same) (record { columns = refl; each = λ column inside. refl })
 
 -- without a last build what is kept stands as the table has it
 pub builds_alone : (large : ℕ) (g : GraphData) (bound : Option ℕ) (old new before after : List GroupTextData) (result : Result ℕ BuildFault) →

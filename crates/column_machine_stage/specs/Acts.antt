@@ -1,9 +1,9 @@
 -- What an act does to the columns and to what moves them.
 use Rattle.std.specs.Prelude.{◌≡◌, ℕ, ◌<◌, true, false, List, slice_index_or, slice_set}
-use Rattle.path_meaning.specs.Graphs.{GraphData, nodes}
-use Rattle.path_meaning.specs.Step.{IsStep}
-use Rattle.oscillation_x.specs.declared.settling.Settled.{Settled}
-use Rattle.oscillation_x.specs.Settling.{Settles}
+use Rattle.switch_paths.specs.Graphs.{GraphData, nodes}
+use Rattle.switch_paths.specs.Step.{IsStep}
+use Rattle.settling.specs.declared.settling.Settled.{Settled}
+use Rattle.settling.specs.Settling.{Settles}
 use Rattle.ternary.specs.declared.tern.Tern.{Tern}
 use Rattle.column_stage.specs.Acts.{Act, Reserved, Placed, Edited, Built, Stepped, Rested}
 use Rattle.column_stage.specs.Columns.{letter_in, with_new_nodes}
@@ -11,14 +11,14 @@ use Rattle.column_machine_stage.specs.Stages.{StageData, SameStates, FitsIn, Kee
 
 -- in each column a node has the column's letter, and a machine that fits the graph fits it still
 pub record PlacesLetters (g : GraphData) (node : ℕ) (letters : List Tern) (old new : StageData) : Type 0 where
-  pub lanes : new.lanes ≡ old.lanes
-  pub each : (lane : ℕ) → lane < old.lanes → states_in new lane ≡ slice_set (states_in old lane) node (letter_in lane letters)
+  pub columns : new.columns ≡ old.columns
+  pub each : (column : ℕ) → column < old.columns → states_in new column ≡ slice_set (states_in old column) node (letter_in column letters)
   pub machine : KeepsFit g old.machine new.machine
 
 -- each node that is new is X in each column, and what machine there is doesn't serve any more
 pub record GrowsColumns (g : GraphData) (old new : StageData) : Type 0 where
-  pub lanes : new.lanes ≡ old.lanes
-  pub each : (lane : ℕ) → lane < old.lanes → states_in new lane ≡ with_new_nodes (states_in old lane) (nodes g)
+  pub columns : new.columns ≡ old.columns
+  pub each : (column : ℕ) → column < old.columns → states_in new column ≡ with_new_nodes (states_in old column) (nodes g)
   pub stale : new.stale ≡ true
 
 -- there is a machine that fits the graph, with groups of up to so many members, and the columns have their states still
@@ -30,8 +30,8 @@ pub record BuildsColumns (large : ℕ) (g : GraphData) (old new : StageData) : T
 
 -- each column settled, with its count among these
 abbrev pub SettlesIn : GraphData → ℕ → List Settled → ℕ → List Tern → List Tern → Type 0
-SettlesIn g limit counts lane old new =
-    (past : Settled) → Settles g old limit new (slice_index_or counts lane past).steps (slice_index_or counts lane past).joined
+SettlesIn g limit counts column old new =
+    (past : Settled) → Settles g old limit new (slice_index_or counts column past).steps (slice_index_or counts column past).joined
 
 -- what an act does to a stage of columns: where room is taken the machine may be let go; a node is placed in each column; new nodes are X in each
 -- column, and the machine is to be built anew; it is built, unless it is there; each column takes a step, or settles
@@ -40,5 +40,5 @@ DidAct Reserved old new = SameStates old new
 DidAct (Placed g node letters) old new = PlacesLetters g node letters old new
 DidAct (Edited g change) old new = GrowsColumns g old new
 DidAct (Built large g) old new = BuildsColumns large g old new
-DidAct (Stepped g) old new = MovesTogether g (λ lane before after. IsStep g before after) old new
+DidAct (Stepped g) old new = MovesTogether g (λ column before after. IsStep g before after) old new
 DidAct (Rested g limit counts) old new = MovesTogether g (SettlesIn g limit counts) old new

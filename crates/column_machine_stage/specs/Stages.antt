@@ -4,17 +4,17 @@
 use Rattle.std.specs.Prelude.{◌≡◌, ℕ, ◌+◌, ◌-◌, ◌<◌, ◌≤◌, Bool, false, List, [], min, Option, None, Some, IfSome, IfNone, vec_len, vec_capacity}
 use Rattle.ternary.specs.declared.tern.Tern.{Tern}
 use Rattle.ternary.specs.Tern.{may_one, may_zero}
-use Rattle.path_meaning.specs.Graphs.{GraphData}
-use Rattle.path_meaning.specs.Switching.{state_at}
+use Rattle.switch_paths.specs.Graphs.{GraphData}
+use Rattle.switch_paths.specs.Switching.{state_at}
 use Rattle.group_text.specs.Texts.{GroupTextData}
 use Rattle.group_text.specs.FirstTexts.{new_texts}
 use Rattle.group_analysis.specs.Using.{used_texts}
 use Rattle.circuit_texts.specs.Building.{HasTexts}
-use Rattle.batch_words.specs.Lanes.{is_in_lane}
-use Rattle.lane_machine.specs.Columns.{column}
-use Rattle.lane_machine.specs.declared.column_machine.ColumnMachine.{ColumnMachine}
-use Rattle.lane_machine.specs.Moving.{lanes_of, highs_of, lows_of, FitsInColumns}
-use Rattle.lane_machine.specs.Running.{AreColumns}
+use Rattle.word_columns.specs.Columns.{is_in_column}
+use Rattle.column_machines.specs.Columns.{column_states}
+use Rattle.column_machines.specs.declared.column_machine.ColumnMachine.{ColumnMachine}
+use Rattle.column_machines.specs.Moving.{columns_of, highs_of, lows_of, FitsInColumns}
+use Rattle.column_machines.specs.Running.{AreColumns}
 use Rattle.column_machine_stage.specs.declared.words.Words.{Words}
 use Rattle.column_machine_stage.specs.declared.stage.Rails.{Rails}
 use Rattle.column_machine_stage.specs.declared.stage.Held.{Held}
@@ -23,20 +23,20 @@ use Rattle.column_machine_stage.specs.declared.stage.Held.TheVariants.{Still, Bu
 -- ---- words
 
 -- in this column the words are the rails of the state
-pub record HasValue (lane : ℕ) (state : Tern) (words : Words) : Type 0 where
-  pub one : is_in_lane lane words.hi ≡ may_one state
-  pub zero : is_in_lane lane words.lo ≡ may_zero state
+pub record HasValue (column : ℕ) (state : Tern) (words : Words) : Type 0 where
+  pub one : is_in_column column words.hi ≡ may_one state
+  pub zero : is_in_column column words.lo ≡ may_zero state
 
 -- the first columns, so many, have these states in the words
 abbrev pub HasValuesBelow : ℕ → List Tern → Words → Type 0
-HasValuesBelow count states words = (lane : ℕ) → lane < count → HasValue lane (state_at states lane) words
+HasValuesBelow count states words = (column : ℕ) → column < count → HasValue column (state_at states column) words
 
 -- ---- the states and the machine
 
 -- how many columns there are, both rails of each node's states, bit i for column i, the machine, if there is one, how many members its groups
 -- may have, whether the graph was edited since it was made, and for how many nodes more there is room
 pub record StageData : Type 0 where
-  pub lanes : ℕ
+  pub columns : ℕ
   pub hi : List ℕ
   pub lo : List ℕ
   pub machine : Option ColumnMachine
@@ -45,12 +45,12 @@ pub record StageData : Type 0 where
   pub spare : ℕ
 
 -- how many columns there are
-abbrev pub lanes_in : StageData → ℕ
-lanes_in stage = stage.lanes
+abbrev pub columns_on : StageData → ℕ
+columns_on stage = stage.columns
 
 -- the states of a column
 abbrev pub states_in : StageData → ℕ → List Tern
-states_in stage lane = column lane stage.hi stage.lo
+states_in stage column = column_states column stage.hi stage.lo
 
 -- the rails that stand alone, or are the machine's
 abbrev pub hi_held : Held → List ℕ
@@ -78,15 +78,15 @@ pub record HasRoom (nodes : ℕ) (rails : Rails) : Type 0 where
 
 -- there are 1 to 64 columns; where the rails stand alone, each node has one in each column
 pub record IsStage (stage : StageData) : Type 0 where
-  pub some : 1 ≤ stage.lanes
-  pub few : stage.lanes ≤ 64
-  pub columns : IfNone stage.machine (AreColumns stage.lanes stage.hi stage.lo)
-  pub same : IfSome stage.machine (λ machine. lanes_of machine ≡ stage.lanes)
+  pub some : 1 ≤ stage.columns
+  pub few : stage.columns ≤ 64
+  pub columns_are : IfNone stage.machine (AreColumns stage.columns stage.hi stage.lo)
+  pub same : IfSome stage.machine (λ machine. columns_of machine ≡ stage.columns)
 
 -- the columns have the same states, and are as many
 pub record SameStates (old new : StageData) : Type 0 where
-  pub lanes : new.lanes ≡ old.lanes
-  pub each : (lane : ℕ) → lane < old.lanes → states_in new lane ≡ states_in old lane
+  pub columns : new.columns ≡ old.columns
+  pub each : (column : ℕ) → column < old.columns → states_in new column ≡ states_in old column
 
 -- ---- what it serves
 
@@ -116,8 +116,8 @@ pub record FitsIn (g : GraphData) (found : Option ColumnMachine) : Type 0 where
 
 -- in each column this leads from the states to the next, and the machine fits the graph still
 pub record MovesTogether (g : GraphData) (Leads : ℕ → List Tern → List Tern → Type 0) (old new : StageData) : Type 0 where
-  pub lanes : new.lanes ≡ old.lanes
-  pub each : (lane : ℕ) → lane < old.lanes → Leads lane (states_in old lane) (states_in new lane)
+  pub columns : new.columns ≡ old.columns
+  pub each : (column : ℕ) → column < old.columns → Leads column (states_in old column) (states_in new column)
   pub fits : FitsIn g new.machine
 
 -- a machine that fits the graph fits it still, and where there is none there is none

@@ -6,18 +6,18 @@ use analysis_cache::{Analyst, Kept};
 use channel_groups::Change;
 use circuit_texts::BuildFault;
 use column_stage::{ColumnStage, Stage};
-use oscillation_x::Settled;
-use path_meaning::Graph;
+use settling::Settled;
 use std::alloc::Global;
+use switch_paths::Graph;
 use ternary::{NoMemory, Tern};
 
 impl Stage for ColumnMachineStage {
     ghost use Rattle.std.specs.Prelude.{[]};
-    ghost use Rattle.lane_machine.specs.Building.{IsCutInColumns};
-    ghost use Rattle.column_machine_stage.specs.Stages.{FitsIn, ServesIn, lanes_in, states_in};
+    ghost use Rattle.column_machines.specs.Building.{IsCutInColumns};
+    ghost use Rattle.column_machine_stage.specs.Stages.{FitsIn, ServesIn, columns_on, states_in};
     ghost use Rattle.column_machine_stage.specs.Acts.{DidAct};
 
-    ghost lanes = { lanes_in };
+    ghost columns = { columns_on };
 
     ghost states = { states_in };
 
@@ -33,12 +33,12 @@ impl Stage for ColumnMachineStage {
 
     ghost did = { DidAct };
 
-    fn lanes(&self) -> u32 {
+    fn columns(&self) -> u32 {
         self.count()
     }
 
-    fn state(&self, node: usize, lane: u32) -> Tern {
-        self.state_of(node, lane)
+    fn state(&self, node: usize, column: u32) -> Tern {
+        self.state_of(node, column)
     }
 
     fn place(&mut self, graph: &Graph, node: usize, letters: &[Tern]) {

@@ -4,20 +4,20 @@ ghost use Rattle.std.specs.Prelude.{List, ◌≡◌, ℕ, ◌+◌, ◌-◌, ◌<
 ghost use Rattle.std.specs.Bool.{OnTrue};
 ghost use Rattle.ternary.specs.declared.tern.Tern.{Tern};
 ghost use Rattle.ternary.specs.declared.tern.Tern.TheVariants.{Zero, One, Unk};
-ghost use Rattle.path_meaning.specs.declared.TheConstants.{RAILS};
-ghost use Rattle.path_meaning.specs.Words.{GraphData, state_at, IsRailed, IsStep};
-ghost use Rattle.oscillation_x.specs.declared.settling.TheConstants.{MOST_LIMIT};
-ghost use Rattle.oscillation_x.specs.declared.settling.Settled.{Settled};
-ghost use Rattle.oscillation_x.specs.Settling.{Settles};
+ghost use Rattle.switch_paths.specs.declared.TheConstants.{RAILS};
+ghost use Rattle.switch_paths.specs.Words.{GraphData, state_at, IsRailed, IsStep};
+ghost use Rattle.settling.specs.declared.settling.TheConstants.{MOST_LIMIT};
+ghost use Rattle.settling.specs.declared.settling.Settled.{Settled};
+ghost use Rattle.settling.specs.Settling.{Settles};
 ghost use Rattle.group_text.specs.Texts.{GroupTextData};
 ghost use Rattle.analysis_cache.specs.Keeping.{texts_of};
 ghost use Rattle.circuit_texts.specs.Sizes.{TellsRefused};
 ghost use Rattle.circuit_texts.specs.Building.{Builds};
-ghost use Rattle.batch_words.specs.Lanes.{HasLane};
-ghost use Rattle.lane_machine.specs.Building.{IsCutInColumns};
-ghost use Rattle.lane_machine.specs.Columns.{column, HasStates};
-ghost use Rattle.lane_machine.specs.Moving.{lanes_of, highs_of, lows_of, FitsInColumns};
-ghost use Rattle.lane_machine.specs.Running.{AreColumns};
+ghost use Rattle.word_columns.specs.Columns.{AreRailsIn};
+ghost use Rattle.column_machines.specs.Building.{IsCutInColumns};
+ghost use Rattle.column_machines.specs.Columns.{column_states, HasStates};
+ghost use Rattle.column_machines.specs.Moving.{columns_of, highs_of, lows_of, FitsInColumns};
+ghost use Rattle.column_machines.specs.Running.{AreColumns};
 ghost use Rattle.column_stage.specs.Columns.{AreSound, with_new_nodes};
 ghost use Rattle.column_stage.specs.declared.TheConstants.{NEW_NODES};
 ghost use Rattle.column_machine_stage.specs.Stages.{HasRoom, KeepsFit, MovesTogether, SameStates, FitsIn, ServesIn, states_in};
@@ -26,12 +26,12 @@ ghost use Rattle.column_machine_stage.specs.Acts.{BuildsColumns};
 use crate::words::{UNKNOWN, Words, railed};
 use analysis_cache::{Analyst, Kept};
 use circuit_texts::BuildFault;
+use column_machines::{ColumnMachine, state_in};
 use column_stage::NEW_NODES;
-use lane_machine::{ColumnMachine, state_in};
-use oscillation_x::{MOST_LIMIT, Settled};
-use path_meaning::{GND, Graph, RAILS, VDD};
+use settling::{MOST_LIMIT, Settled};
 use std::alloc::{AllocError, Global};
 use std::marker::Model;
+use switch_paths::{GND, Graph, RAILS, VDD};
 use ternary::{NoMemory, Tern};
 
 // Both rails of each node's states, bit i for column i.
@@ -56,7 +56,7 @@ pub(crate) enum Held {
 #[derive(Drop)]
 pub struct ColumnMachineStage {
     alloc: Global,
-    lanes: u32,
+    columns: u32,
     held: Held,
     // how many members the groups of the machine may have
     large: usize,
@@ -69,20 +69,20 @@ impl Model for ColumnMachineStage {
 
     ghost Value = { StageData };
 
-    ghost view = { λ stage. record { lanes = stage.lanes; hi = hi_held stage.held; lo = lo_held stage.held; machine = machine_held stage.held; large = stage.large; stale = stage.stale; spare = spare_held stage.held } };
+    ghost view = { λ stage. record { columns = stage.columns; hi = hi_held stage.held; lo = lo_held stage.held; machine = machine_held stage.held; large = stage.large; stale = stage.stale; spare = spare_held stage.held } };
 
-    ghost invariant = { λ stage. IsStage (record { lanes = stage.lanes; hi = hi_held stage.held; lo = lo_held stage.held; machine = machine_held stage.held; large = stage.large; stale = stage.stale; spare = spare_held stage.held }) };
+    ghost invariant = { λ stage. IsStage (record { columns = stage.columns; hi = hi_held stage.held; lo = lo_held stage.held; machine = machine_held stage.held; large = stage.large; stale = stage.stale; spare = spare_held stage.held }) };
 }
 
 impl ColumnMachineStage {
     /// The states at the start, in so many columns: Gnd is 0, Vdd is 1 and every other node X.
-    pub fn start(alloc: Global, lanes: u32, nodes: usize) -> Result<ColumnMachineStage, NoMemory>
-        requires some { 1 ≤ lanes }
-        requires few { lanes ≤ 64 }
+    pub fn start(alloc: Global, columns: u32, nodes: usize) -> Result<ColumnMachineStage, NoMemory>
+        requires some { 1 ≤ columns }
+        requires few { columns ≤ 64 }
         requires railed { RAILS ≤ nodes }
-        ensures lanes { IfOk result (λ stage. stage.lanes ≡ lanes) }
-        ensures states { IfOk result (λ stage. (lane : ℕ) → lane < lanes
-            → states_in stage lane ≡ Zero ∷ One ∷ replicate (nodes - RAILS) Unk) }
+        ensures columns { IfOk result (λ stage. stage.columns ≡ columns) }
+        ensures states { IfOk result (λ stage. (column : ℕ) → column < columns
+            → states_in stage column ≡ Zero ∷ One ∷ replicate (nodes - RAILS) Unk) }
         ensures machine { IfOk result (λ stage. stage.machine ≡ None) }
         ensures serves { IfOk result (λ stage. (g : GraphData) (kept : List GroupTextData) → ServesIn stage g kept) }
     {
@@ -93,7 +93,7 @@ impl ColumnMachineStage {
         let held = Held::Still(Rails { hi, lo });
         Ok(ColumnMachineStage {
             alloc,
-            lanes,
+            columns,
             held,
             large: 0,
             stale: false,
@@ -102,11 +102,11 @@ impl ColumnMachineStage {
 
     // How many columns there are.
     pub(crate) fn count(&self) -> u32
-        ensures value { result ≡ self.now.lanes }
+        ensures value { result ≡ self.now.columns }
         ensures some { 1 ≤ result }
         ensures few { result ≤ 64 }
     {
-        self.lanes
+        self.columns
     }
 
     // The rail "may be 1" of each node, bit i for column i.
@@ -131,26 +131,26 @@ impl ColumnMachineStage {
 
     // In each column the words are the rails of states: a call of this is for its contract alone.
     fn are_columns(&self)
-        ensures { AreColumns self.now.lanes self.now.hi self.now.lo }
+        ensures { AreColumns self.now.columns self.now.hi self.now.lo }
     {
         match &self.held {
             Held::Still(_) => {}
             Held::Built(machine) => {
-                let _few = machine.lanes();
+                let _few = machine.columns();
             }
         }
     }
 
     // The state of a node in a column.
-    pub(crate) fn state_of(&self, node: usize, lane: u32) -> Tern
-        requires lane { lane < self.now.lanes }
-        requires node { node < length (states_in self.now lane) }
-        ensures { result ≡ state_at (states_in self.now lane) node }
+    pub(crate) fn state_of(&self, node: usize, column: u32) -> Tern
+        requires column { column < self.now.columns }
+        requires node { node < length (states_in self.now column) }
+        ensures { result ≡ state_at (states_in self.now column) node }
     {
         // a call for the proof alone: the columns are few
         let _few = self.count();
         let (hi, lo) = (self.high_words(), self.low_words());
-        word_state(hi, lo, node, lane as usize)
+        word_state(hi, lo, node, column as usize)
     }
 
     // Lets the machine go, if there is one, and takes room for as many new nodes as one edit makes at most.
@@ -183,8 +183,8 @@ impl ColumnMachineStage {
     pub(crate) fn add_nodes(&mut self, nodes: usize)
         requires few { nodes ≤ length (states_in self.old 0) + self.old.spare }
         requires room { nodes ≤ length self.old.hi + self.old.spare }
-        ensures lanes { self.new.lanes ≡ self.old.lanes }
-        ensures states { (lane : ℕ) → lane < self.old.lanes → states_in self.new lane ≡ with_new_nodes (states_in self.old lane) nodes }
+        ensures columns { self.new.columns ≡ self.old.columns }
+        ensures states { (column : ℕ) → column < self.old.columns → states_in self.new column ≡ with_new_nodes (states_in self.old column) nodes }
         ensures stale { self.new.stale ≡ true }
     {
         self.stale = true;
@@ -206,7 +206,7 @@ impl ColumnMachineStage {
         analyst: &mut A,
     ) -> Result<u64, BuildFault>
         requires railed { IsRailed graph.now }
-        requires sound { AreSound graph.now self.old.lanes (states_in self.old) }
+        requires sound { AreSound graph.now self.old.columns (states_in self.old) }
         requires serves { ServesIn self.old graph.now (texts_of kept.old) }
         ensures made { OnOk result (BuildsColumns large graph.now self.old self.new) }
         ensures serves { ServesIn self.new graph.now (texts_of kept.new) }
@@ -257,9 +257,10 @@ impl ColumnMachineStage {
         analyst: &mut A,
     ) -> Result<(ColumnMachine, u64), BuildFault>
         requires railed { IsRailed graph.now }
-        requires sound { AreSound graph.now self.now.lanes (states_in self.now) }
+        requires sound { AreSound graph.now self.now.columns (states_in self.now) }
         ensures fits { IfOk result (λ made. FitsInColumns graph.now made.0) }
-        ensures same { IfOk result (λ made. (lanes_of made.0 ≡ self.now.lanes) × (highs_of made.0 ≡ self.now.hi) × (lows_of made.0 ≡ self.now.lo)) }
+        ensures same { IfOk result (λ made. (columns_of made.0 ≡ self.now.columns) × (highs_of made.0 ≡ self.now.hi)
+            × (lows_of made.0 ≡ self.now.lo)) }
         ensures builds { IfOk result (λ made. Builds large graph.now kept.old.bound (texts_of kept.old) (texts_of kept.new) (A.analysed analyst.old) (A.analysed analyst.new) made.1) }
         ensures bound { kept.new.bound ≡ kept.old.bound }
         ensures cut_off { result ≡ Err BuildFault.NoMemory → IsCutInColumns large graph.now kept.old.bound (texts_of kept.old) (texts_of kept.new) (A.analysed analyst.old) (A.analysed analyst.new) }
@@ -268,15 +269,15 @@ impl ColumnMachineStage {
     {
         // a call for the proof alone: in each column the words are the rails of states
         self.are_columns();
-        let lanes = self.count();
+        let columns = self.count();
         let (hi, lo) = (self.high_words(), self.low_words());
-        ColumnMachine::build(self.alloc, graph, lanes, hi, lo, large, kept, analyst)
+        ColumnMachine::build(self.alloc, graph, columns, hi, lo, large, kept, analyst)
     }
 
     // From here on this machine moves the states, with groups of up to so many members.
     fn put(&mut self, machine: ColumnMachine, large: usize)
-        requires { lanes_of machine ≡ self.old.lanes }
-        ensures lanes { self.new.lanes ≡ self.old.lanes }
+        requires { columns_of machine ≡ self.old.columns }
+        ensures columns { self.new.columns ≡ self.old.columns }
         ensures hi { self.new.hi ≡ highs_of machine }
         ensures lo { self.new.lo ≡ lows_of machine }
         ensures machine { self.new.machine ≡ Some machine }
@@ -292,10 +293,10 @@ impl ColumnMachineStage {
     pub(crate) fn set_node(&mut self, graph: &Graph, node: usize, words: Words)
         requires inside { node < length (states_in self.old 0) }
         requires no_rail { RAILS ≤ node }
-        requires states { HasStates self.old.lanes words.hi words.lo }
+        requires states { HasStates self.old.columns words.hi words.lo }
         ensures hi { self.new.hi ≡ slice_set self.old.hi node words.hi }
         ensures lo { self.new.lo ≡ slice_set self.old.lo node words.lo }
-        ensures lanes { self.new.lanes ≡ self.old.lanes }
+        ensures columns { self.new.columns ≡ self.old.columns }
         ensures machine { KeepsFit graph.now self.old.machine self.new.machine }
         ensures large { self.new.large ≡ self.old.large }
         ensures stale { self.new.stale ≡ self.old.stale }
@@ -326,9 +327,9 @@ impl ColumnMachineStage {
         requires fits { FitsIn graph.now self.old.machine }
         requires low { 1 ≤ limit }
         requires high { limit ≤ MOST_LIMIT }
-        requires places { length counts.old ≡ self.old.lanes }
+        requires places { length counts.old ≡ self.old.columns }
         ensures moves { (past : Settled) → MovesTogether graph.now
-            (λ lane old new. Settles graph.now old limit new (slice_index_or counts.new lane past).steps (slice_index_or counts.new lane past).joined) self.old self.new }
+            (λ column old new. Settles graph.now old limit new (slice_index_or counts.new column past).steps (slice_index_or counts.new column past).joined) self.old self.new }
         ensures large { self.new.large ≡ self.old.large }
         ensures stale { self.new.stale ≡ self.old.stale }
     {
@@ -339,19 +340,20 @@ impl ColumnMachineStage {
 }
 
 // The state of a node in a column, by its words.
-fn word_state(hi: &[u64], lo: &[u64], node: usize, lane: usize) -> Tern
-    requires lane { lane < 64 }
+fn word_state(hi: &[u64], lo: &[u64], node: usize, column: usize) -> Tern
+    requires column { column < 64 }
     requires high { node < length hi.now }
     requires low { node < length lo.now }
-    ensures { result ≡ state_at (column lane hi.now lo.now) node }
+    ensures { result ≡ state_at (column_states column hi.now lo.now) node }
 {
-    state_in(hi[node], lo[node], lane)
+    state_in(hi[node], lo[node], column)
 }
 
 // The same states in rails of their own, with room for as many new nodes as one edit makes at most. If a column has
 // neither rail of a node, X stands.
 fn copied_rails(alloc: Global, hi: &[u64], lo: &[u64]) -> Result<Rails, AllocError>
-    ensures states { IfOk result (λ rails. (lane : ℕ) → lane < 64 → HasLane lane rails.hi.items rails.lo.items (column lane hi.now lo.now)) }
+    ensures states { IfOk result (λ rails. (column : ℕ) → column < 64
+        → AreRailsIn column rails.hi.items rails.lo.items (column_states column hi.now lo.now)) }
     ensures room { IfOk result (λ rails. HasRoom NEW_NODES rails) }
 {
     let nodes = hi.len().min(lo.len());
@@ -369,8 +371,8 @@ fn copied_rails(alloc: Global, hi: &[u64], lo: &[u64]) -> Result<Rails, AllocErr
 fn grow_rails(rails: &mut Rails, nodes: usize)
     requires room { HasRoom (nodes - vec_len rails.old.hi) rails.old }
     requires even { vec_len rails.old.lo ≡ vec_len rails.old.hi }
-    ensures { (lane : ℕ) (state : List Tern) → lane < 64 → HasLane lane rails.old.hi.items rails.old.lo.items state
-        → HasLane lane rails.new.hi.items rails.new.lo.items (state ++ replicate (nodes - length state) Unk) }
+    ensures { (column : ℕ) (state : List Tern) → column < 64 → AreRailsIn column rails.old.hi.items rails.old.lo.items state
+        → AreRailsIn column rails.new.hi.items rails.new.lo.items (state ++ replicate (nodes - length state) Unk) }
 {
     for _node in rails.hi.len()..nodes {
         push_words(rails, UNKNOWN);

@@ -8,10 +8,10 @@ use Rattle.script_lang.specs.declared.command.Setup.{Setup}
 use Rattle.script_lang.specs.declared.command.Setup.TheVariants.{Watch, Save}
 use Rattle.script_lang.specs.declared.command.Run.{Run}
 use Rattle.script_lang.specs.declared.command.Run.TheVariants.{Step, Phase, Cycle, Report}
-use Rattle.lane_script.specs.declared.command.LaneCommand.{LaneCommand}
-use Rattle.lane_script.specs.declared.command.LaneCommand.TheVariants.{Values, Shared}
-use Rattle.lane_script.specs.Commands.{in_column, IsSharedSetup}
-use Rattle.lane_script.specs.Forms.{IsFormed}
+use Rattle.column_script.specs.declared.command.ColumnCommand.{ColumnCommand}
+use Rattle.column_script.specs.declared.command.ColumnCommand.TheVariants.{Values, Shared}
+use Rattle.column_script.specs.Commands.{in_column, IsSharedSetup}
+use Rattle.column_script.specs.Forms.{IsFormed}
 use Rattle.session_meaning.specs.Sessions.{SessionData, places_of}
 use Rattle.session_meaning.specs.Refusals.{refusal_of}
 use Rattle.session_meaning.specs.Preparing.{with_present, BuildsIf}
@@ -73,20 +73,20 @@ alike-run Report one two after later lines more alike first second =
     kept_alike (λ s. record s { fresh = 0 }) one two after later alike (ap less_states first.moved) (ap less_states second.moved)
 
 -- and so do all effects
-pub alike-effect : (lanes : ℕ) (command : LaneCommand) → IsFormed lanes command → (lane other : ℕ) (one two after later : SessionData) (lines more : List Line) →
-    AreAlike one two → Effect one (in_column lane command) after lines → Effect two (in_column other command) later more → AreAlike after later
-alike-effect lanes (Values kind list) formed lane other one two after later lines more alike first second =
+pub alike-effect : (columns : ℕ) (command : ColumnCommand) → IsFormed columns command → (column other : ℕ) (one two after later : SessionData) (lines more : List Line) →
+    AreAlike one two → Effect one (in_column column command) after lines → Effect two (in_column other command) later more → AreAlike after later
+alike-effect columns (Values kind list) formed column other one two after later lines more alike first second =
     kept_alike (λ s. s) one two after later alike (ap less_states first.0) (ap less_states second.0)
-alike-effect lanes (Shared (family.Edit edit)) formed lane other one two after later lines more alike first second =
+alike-effect columns (Shared (family.Edit edit)) formed column other one two after later lines more alike first second =
     kept_alike (λ s. record s { circuit = circuit_after s.circuit s.vectors edit }) one two after later alike (ap less_states first.0)
     (ap less_states second.0)
-alike-effect lanes (Shared (family.Give give)) formed lane other one two after later lines more alike first second = absurd (formed.1)
-alike-effect lanes (Shared (family.Setup setup)) formed lane other one two after later lines more alike first second =
+alike-effect columns (Shared (family.Give give)) formed column other one two after later lines more alike first second = absurd (formed.1)
+alike-effect columns (Shared (family.Setup setup)) formed column other one two after later lines more alike first second =
     kept_alike (λ s. setup_after s setup) one two after later alike (ap less_states first.0 ∙ set_less one setup formed.1)
     (ap less_states second.0 ∙ set_less two setup formed.1)
-alike-effect lanes (Shared (family.Run run)) formed lane other one two after later lines more alike first second =
+alike-effect columns (Shared (family.Run run)) formed column other one two after later lines more alike first second =
     alike-run run one two after later lines more alike first second
-alike-effect lanes (Shared (family.Tell tell)) formed lane other one two after later lines more alike first second = absurd (formed.1)
+alike-effect columns (Shared (family.Tell tell)) formed column other one two after later lines more alike first second = absurd (formed.1)
 
 -- so do builds, since the texts of one circuit are present
 pub alike-built : (building : Bool) (one two mid then : SessionData) (texts others : List GroupTextData) → AreAlike one two →
@@ -103,11 +103,11 @@ alike-built false one two mid then texts others alike first second =
     kept_alike (λ s. s) one two mid then alike (ap less_states (first.0)) (ap less_states (second.0))
 
 -- sessions that are alike refuse what columns are given alike
-pub alike-refused : (one two : SessionData) (command : LaneCommand) (lane other : ℕ) → AreAlike one two →
-    refusal_of two (in_column other command) ≡ refusal_of one (in_column lane command)
-alike-refused one two command lane other alike =
+pub alike-refused : (one two : SessionData) (command : ColumnCommand) (column other : ℕ) → AreAlike one two →
+    refusal_of two (in_column other command) ≡ refusal_of one (in_column column command)
+alike-refused one two command column other alike =
     ap (λ (s : SessionData). refusal_of s (in_column other command)) (beside one two alike)
-    ∙ refused_alike one two.state command other lane
+    ∙ refused_alike one two.state command other column
 
 -- how many lines a command tells, by the number of places of the clocks
 abbrev run_lines : Run → ℕ → ℕ
@@ -116,7 +116,7 @@ run_lines Phase places = 1
 run_lines (Cycle times) places = length (places_in places times)
 run_lines Report places = 1
 
-abbrev pub lines_told : LaneCommand → ℕ → ℕ
+abbrev pub lines_told : ColumnCommand → ℕ → ℕ
 lines_told (Shared (family.Run run)) places = run_lines run places
 lines_told command places = 0
 
@@ -126,11 +126,11 @@ length-run Phase old new lines effect = ap length effect.wrote
 length-run (Cycle times) old new lines effect = length-beats (places_in (places_of old.clocks) times) old new lines effect
 length-run Report old new lines effect = ap length effect.wrote
 
-pub length-effect : (lanes : ℕ) (command : LaneCommand) → IsFormed lanes command → (lane : ℕ) (old new : SessionData) (lines : List Line) →
-    Effect old (in_column lane command) new lines → length lines ≡ lines_told command (places_of old.clocks)
-length-effect lanes (Values kind list) formed lane old new lines effect = ap length effect.1
-length-effect lanes (Shared (family.Edit edit)) formed lane old new lines effect = ap length effect.1
-length-effect lanes (Shared (family.Give give)) formed lane old new lines effect = ap length effect.1
-length-effect lanes (Shared (family.Setup setup)) formed lane old new lines effect = ap length effect.1
-length-effect lanes (Shared (family.Run run)) formed lane old new lines effect = length-run run old new lines effect
-length-effect lanes (Shared (family.Tell tell)) formed lane old new lines effect = absurd (formed.1)
+pub length-effect : (columns : ℕ) (command : ColumnCommand) → IsFormed columns command → (column : ℕ) (old new : SessionData) (lines : List Line) →
+    Effect old (in_column column command) new lines → length lines ≡ lines_told command (places_of old.clocks)
+length-effect columns (Values kind list) formed column old new lines effect = ap length effect.1
+length-effect columns (Shared (family.Edit edit)) formed column old new lines effect = ap length effect.1
+length-effect columns (Shared (family.Give give)) formed column old new lines effect = ap length effect.1
+length-effect columns (Shared (family.Setup setup)) formed column old new lines effect = ap length effect.1
+length-effect columns (Shared (family.Run run)) formed column old new lines effect = length-run run old new lines effect
+length-effect columns (Shared (family.Tell tell)) formed column old new lines effect = absurd (formed.1)

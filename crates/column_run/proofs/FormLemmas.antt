@@ -6,22 +6,22 @@ use Rattle.ternary.specs.declared.tern.Tern.{Tern}
 use Rattle.line_words.specs.Visible.{IsVisibleName}
 use Rattle.script_lang.specs.declared.value.Value.{Value}
 use Rattle.script_lang.specs.Forms as form
-use Rattle.lane_script.specs.declared.command.LaneCommand.{LaneCommand}
-use Rattle.lane_script.specs.declared.command.LaneCommand.TheVariants.{Values, Shared}
-use Rattle.lane_script.specs.declared.command.ValueCommand.TheVariants as value
-use Rattle.lane_script.specs.Commands.{alone_of, in_column, value_in}
-use Rattle.lane_script.specs.Forms.{IsFormed, AreLaneValues, IsLaneValue}
+use Rattle.column_script.specs.declared.command.ColumnCommand.{ColumnCommand}
+use Rattle.column_script.specs.declared.command.ColumnCommand.TheVariants.{Values, Shared}
+use Rattle.column_script.specs.declared.command.ValueCommand.TheVariants as value
+use Rattle.column_script.specs.Commands.{alone_of, in_column, value_in}
+use Rattle.column_script.specs.Forms.{IsFormed, AreColumnValues, IsColumnValue}
 
 -- values in a column are assignments
-values_formed : (lanes lane : ℕ) (list : List (List ℕ × List Tern)) → AreLaneValues lanes list → form.AreAssignments (map alone_of (map (value_in lane) list))
-values_formed lanes lane list (some, each) = (
-  omega (arith, some, length-map list (value_in lane), length-map (map (value_in lane) list) alone_of),
-  All-map (λ (item : List ℕ × Value). IsVisibleName item.0) alone_of (map (value_in lane) list)
-      (All-map (λ (item : List ℕ × Tern). IsVisibleName item.0) (value_in lane) list
-      (All-weaker (IsLaneValue lanes) (λ (value : List ℕ × List Tern). IsVisibleName value.0) (λ value is. is.named) list each)),
+values_formed : (columns column : ℕ) (list : List (List ℕ × List Tern)) → AreColumnValues columns list → form.AreAssignments (map alone_of (map (value_in column) list))
+values_formed columns column list (some, each) = (
+  omega (arith, some, length-map list (value_in column), length-map (map (value_in column) list) alone_of),
+  All-map (λ (item : List ℕ × Value). IsVisibleName item.0) alone_of (map (value_in column) list)
+      (All-map (λ (item : List ℕ × Tern). IsVisibleName item.0) (value_in column) list
+      (All-weaker (IsColumnValue columns) (λ (value : List ℕ × List Tern). IsVisibleName value.0) (λ value is. is.named) list each)),
 )
 
-pub formed_in : (lanes lane : ℕ) (command : LaneCommand) → IsFormed lanes command → form.IsFormed (in_column lane command)
-formed_in lanes lane (Values value.Set list) formed = values_formed lanes lane list formed
-formed_in lanes lane (Values value.Charge list) formed = values_formed lanes lane list formed
-formed_in lanes lane (Shared command) formed = formed.0
+pub formed_in : (columns column : ℕ) (command : ColumnCommand) → IsFormed columns command → form.IsFormed (in_column column command)
+formed_in columns column (Values value.Set list) formed = values_formed columns column list formed
+formed_in columns column (Values value.Charge list) formed = values_formed columns column list formed
+formed_in columns column (Shared command) formed = formed.0

@@ -5,4 +5,4 @@ pub mod EndLemmas
 pub mod TurnLemmas
 pub mod RunLemmas
 pub mod AnswerLemmas
-pub mod UniqueBatches
+pub mod UniqueColumnAnswers

@@ -1,3 +1,3 @@
-pub mod Batches
+pub mod ColumnAnswers
 pub mod Turns
 pub mod Laws

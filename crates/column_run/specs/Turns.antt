@@ -4,9 +4,9 @@ use Rattle.std.specs.Prelude.{◌≡◌, ℕ, ◌<◌, ◌⊎◌, List, ◌++◌
 use Rattle.group_text.specs.Texts.{GroupTextData}
 use Rattle.circuit_texts.specs.declared.texts.BuildFault.{BuildFault}
 use Rattle.circuit_texts.specs.Sizes.{TellsRefused}
-use Rattle.lane_script.specs.declared.command.LaneCommand.{LaneCommand}
-use Rattle.lane_script.specs.Commands.{in_column}
-use Rattle.lane_script.specs.Forms.{IsFormed}
+use Rattle.column_script.specs.declared.command.ColumnCommand.{ColumnCommand}
+use Rattle.column_script.specs.Commands.{in_column}
+use Rattle.column_script.specs.Forms.{IsFormed}
 use Rattle.told_lines.specs.Lines.{Told}
 use Rattle.told_lines.specs.Hearing.{hear_all, HearsFront}
 use Rattle.session_meaning.specs.Columns.{AcceptsInAll, BeginsInAll}
@@ -19,103 +19,104 @@ use Rattle.script_meaning.specs.declared.turn.Turn.{Turn}
 use Rattle.script_meaning.specs.declared.turn.Turn.TheVariants.{Accepted, Refused, TooLarge}
 use Rattle.run_ends.specs.Causes.{plain_cause, size_cause, Cause}
 use Rattle.script_meaning.specs.Runs.{IsIdle, Asks, IsRefused, RefusedLine}
-use Rattle.column_run.specs.Batches.{reading_in, RunsInAll}
+use Rattle.column_run.specs.ColumnAnswers.{reading_in, RunsInAll}
 
 -- in each column the line asks for nothing
 abbrev pub AreIdle : ℕ → Option ℕ → (ℕ → SessionData) → ℕ × List ℕ → Type 0
-AreIdle lanes cut columns line = (lane : ℕ) → lane < lanes → IsIdle (reading_in lanes lane) cut (columns lane) line
+AreIdle columns cut sessions line = (column : ℕ) → column < columns → IsIdle (reading_in columns column) cut (sessions column) line
 
 -- in each column the line asks for what the column is given of this command
-pub record AskInAll (lanes : ℕ) (cut : Option ℕ) (columns : ℕ → SessionData) (line : ℕ × List ℕ) (command : LaneCommand) : Type 0 where
-  pub formed : IsFormed lanes command
-  pub each : (lane : ℕ) → lane < lanes → Asks (reading_in lanes lane) cut (columns lane) line (in_column lane command)
+pub record AskInAll (columns : ℕ) (cut : Option ℕ) (sessions : ℕ → SessionData) (line : ℕ × List ℕ) (command : ColumnCommand) : Type 0 where
+  pub formed : IsFormed columns command
+  pub each : (column : ℕ) → column < columns → Asks (reading_in columns column) cut (sessions column) line (in_column column command)
 
 -- in each column the line is refused for this cause
 abbrev pub AreRefused : ℕ → Option ℕ → (ℕ → SessionData) → ℕ × List ℕ → Cause → Type 0
-AreRefused lanes cut columns line cause = (lane : ℕ) → lane < lanes → IsRefused (reading_in lanes lane) cut (columns lane) line cause
+AreRefused columns cut sessions line cause = (column : ℕ) → column < columns → IsRefused (reading_in columns column) cut (sessions column) line cause
 
 -- each column is as before, nothing was heard, and nothing was analysed
-pub record KeepInAll {H : Type 0} (lanes : ℕ) (old new : ℕ → SessionData) (before after : H) (asked known : List GroupTextData) : Type 0 where
-  pub same : (lane : ℕ) → lane < lanes → new lane ≡ old lane
+pub record KeepInAll {H : Type 0} (columns : ℕ) (old new : ℕ → SessionData) (before after : H) (asked known : List GroupTextData) : Type 0 where
+  pub same : (column : ℕ) → column < columns → new column ≡ old column
   pub unheard : after ≡ before
   pub unasked : known ≡ asked
 
 -- the line asks for nothing, and nothing changes
-pub record Passes {H : Type 0} (lanes : ℕ) (cut : Option ℕ) (line : ℕ × List ℕ) (old new : ℕ → SessionData) (before after : H)
+pub record Passes {H : Type 0} (columns : ℕ) (cut : Option ℕ) (line : ℕ × List ℕ) (old new : ℕ → SessionData) (before after : H)
     (asked known : List GroupTextData) : Type 0 where
-  pub idle : AreIdle lanes cut old line
-  pub keeps : KeepInAll lanes old new before after asked known
+  pub idle : AreIdle columns cut old line
+  pub keeps : KeepInAll columns old new before after asked known
 
 -- the line's command was accepted
-pub record Follows {H : Type 0} (hear : H → Told → H) (lanes : ℕ) (cut : Option ℕ) (line : ℕ × List ℕ) (old new : ℕ → SessionData) (before after : H)
+pub record Follows {H : Type 0} (hear : H → Told → H) (columns : ℕ) (cut : Option ℕ) (line : ℕ × List ℕ)
+    (old new : ℕ → SessionData) (before after : H)
     (asked known : List GroupTextData) : Type 0 where
-  pub command : LaneCommand
-  pub asks : AskInAll lanes cut old line command
-  pub accepts : AcceptsInAll hear lanes old command new before after asked known
+  pub command : ColumnCommand
+  pub asks : AskInAll columns cut old line command
+  pub accepts : AcceptsInAll hear columns old command new before after asked known
 
 -- the circuit can't be built for the line's command: this group is too large
-pub record Outgrows {H : Type 0} (lanes : ℕ) (cut : Option ℕ) (line : ℕ × List ℕ) (old new : ℕ → SessionData) (before after : H)
+pub record Outgrows {H : Type 0} (columns : ℕ) (cut : Option ℕ) (line : ℕ × List ℕ) (old new : ℕ → SessionData) (before after : H)
     (asked known : List GroupTextData) (fault : BuildFault) : Type 0 where
-  pub command : LaneCommand
-  pub asks : AskInAll lanes cut old line command
-  pub refuses : (lane : ℕ) → lane < lanes → RefusesSize (old lane) (in_column lane command) (new lane) before after asked known fault
+  pub command : ColumnCommand
+  pub asks : AskInAll columns cut old line command
+  pub refuses : (column : ℕ) → column < columns → RefusesSize (old column) (in_column column command) (new column) before after asked known fault
 
 -- the line's command had begun, and a part of its rows was heard
-pub record Starts {H : Type 0} (hear : H → Told → H) (part : H → Told → H → Type 0) (lanes : ℕ) (cut : Option ℕ) (line : ℕ × List ℕ)
+pub record Starts {H : Type 0} (hear : H → Told → H) (part : H → Told → H → Type 0) (columns : ℕ) (cut : Option ℕ) (line : ℕ × List ℕ)
     (old new : ℕ → SessionData) (before after : H) (asked known : List GroupTextData) : Type 0 where
-  pub command : LaneCommand
-  pub asks : AskInAll lanes cut old line command
-  pub begins : BeginsInAll hear part lanes old command new before after asked known
+  pub command : ColumnCommand
+  pub asks : AskInAll columns cut old line command
+  pub begins : BeginsInAll hear part columns old command new before after asked known
 
 -- what one line comes to
 abbrev pub TakesTurn : {H : Type 0} → (H → Told → H) → (H → Told → H → Type 0) → ℕ → Option ℕ → ℕ × List ℕ → (ℕ → SessionData) → (ℕ → SessionData) → H → H →
     List GroupTextData → List GroupTextData → Result Turn Stop → Type 0
-TakesTurn hear part lanes cut line old new before after asked known (Ok Accepted) =
-    Passes lanes cut line old new before after asked known ⊎ Follows hear lanes cut line old new before after asked known
-TakesTurn hear part lanes cut line old new before after asked known (Ok (Refused code)) =
-    AreRefused lanes cut old line (plain_cause code) × KeepInAll lanes old new before after asked known
-TakesTurn hear part lanes cut line old new before after asked known (Ok (TooLarge fault)) = Outgrows lanes cut line old new before after asked known fault
-TakesTurn hear part lanes cut line old new before after asked known (Err stop) =
-    (after ≡ before) ⊎ Starts hear part lanes cut line old new before after asked known
+TakesTurn hear part columns cut line old new before after asked known (Ok Accepted) =
+    Passes columns cut line old new before after asked known ⊎ Follows hear columns cut line old new before after asked known
+TakesTurn hear part columns cut line old new before after asked known (Ok (Refused code)) =
+    AreRefused columns cut old line (plain_cause code) × KeepInAll columns old new before after asked known
+TakesTurn hear part columns cut line old new before after asked known (Ok (TooLarge fault)) = Outgrows columns cut line old new before after asked known fault
+TakesTurn hear part columns cut line old new before after asked known (Err stop) =
+    (after ≡ before) ⊎ Starts hear part columns cut line old new before after asked known
 
 -- the lines of a script were obeyed in each column, to this refused line, if one ended them: their rows were heard, and their texts analysed
-pub record HaveObeyed {H : Type 0} (hear : H → Told → H) (lanes : ℕ) (cut : Option ℕ) (start : ℕ → SessionData) (lines : List (ℕ × List ℕ))
+pub record HaveObeyed {H : Type 0} (hear : H → Told → H) (columns : ℕ) (cut : Option ℕ) (start : ℕ → SessionData) (lines : List (ℕ × List ℕ))
     (before after : H) (asked known : List GroupTextData) (last : Option RefusedLine) : Type 0 where
   pub told : List Told
   pub texts : List GroupTextData
-  pub runs : RunsInAll lanes cut start lines told texts last
+  pub runs : RunsInAll columns cut start lines told texts last
   pub heard : after ≡ hear_all hear before told
   pub analysed : known ≡ asked ++ texts
 
 -- they were obeyed to the line with this number, which is refused since a group of the circuit is too large, the first of which is told
-pub record HaveOutgrown {H : Type 0} (hear : H → Told → H) (lanes : ℕ) (cut : Option ℕ) (start : ℕ → SessionData) (lines : List (ℕ × List ℕ))
+pub record HaveOutgrown {H : Type 0} (hear : H → Told → H) (columns : ℕ) (cut : Option ℕ) (start : ℕ → SessionData) (lines : List (ℕ × List ℕ))
     (new : SessionData) (before after : H) (asked known : List GroupTextData) (number : ℕ) (fault : BuildFault) : Type 0 where
   pub first : TellsRefused new.large new.circuit.graph fault
   pub halted : (other : BuildFault) (cause : Cause) → TellsRefused new.large new.circuit.graph other → size_cause new.circuit other ≡ Some cause →
-      HaveObeyed hear lanes cut start lines before after asked known (Some (record { line = number; cause = cause }))
+      HaveObeyed hear columns cut start lines before after asked known (Some (record { line = number; cause = cause }))
 
 -- how the lines of a script end in columns, with these data of the first: all were obeyed, or the line with a number is refused under a code or
 -- for the size of a group
 abbrev pub HaltsAt : {H : Type 0} → (H → Told → H) → ℕ → Option ℕ → (ℕ → SessionData) → List (ℕ × List ℕ) → SessionData → H → H → List GroupTextData →
     List GroupTextData → Halt → Type 0
-HaltsAt hear lanes cut start lines new before after asked known halt.End = HaveObeyed hear lanes cut start lines before after asked known None
-HaltsAt hear lanes cut start lines new before after asked known (halt.Refused number code) =
-    HaveObeyed hear lanes cut start lines before after asked known (Some (record { line = number; cause = plain_cause code }))
-HaltsAt hear lanes cut start lines new before after asked known (halt.TooLarge number fault) =
-    HaveOutgrown hear lanes cut start lines new before after asked known number fault
+HaltsAt hear columns cut start lines new before after asked known halt.End = HaveObeyed hear columns cut start lines before after asked known None
+HaltsAt hear columns cut start lines new before after asked known (halt.Refused number code) =
+    HaveObeyed hear columns cut start lines before after asked known (Some (record { line = number; cause = plain_cause code }))
+HaltsAt hear columns cut start lines new before after asked known (halt.TooLarge number fault) =
+    HaveOutgrown hear columns cut start lines new before after asked known number fault
 
 -- of the rows of some run to its end a front was heard, and of the next line a part, or nothing
-pub record BreakOff {H : Type 0} (hear : H → Told → H) (part : H → Told → H → Type 0) (lanes : ℕ) (cut : Option ℕ) (start : ℕ → SessionData)
+pub record BreakOff {H : Type 0} (hear : H → Told → H) (part : H → Told → H → Type 0) (columns : ℕ) (cut : Option ℕ) (start : ℕ → SessionData)
     (lines : List (ℕ × List ℕ)) (before after : H) : Type 0 where
   pub told : List Told
   pub texts : List GroupTextData
   pub last : Option RefusedLine
-  pub runs : RunsInAll lanes cut start lines told texts last
+  pub runs : RunsInAll columns cut start lines told texts last
   pub heard : HearsFront hear part before after told
 
 -- what obeying the lines of a script in columns comes to; where it stopped, nothing was heard, or a part of the rows
 abbrev pub TellsHalt : {H : Type 0} → (H → Told → H) → (H → Told → H → Type 0) → ℕ → Option ℕ → (ℕ → SessionData) → List (ℕ × List ℕ) → SessionData → H → H →
     List GroupTextData → List GroupTextData → Result Halt Stop → Type 0
-TellsHalt hear part lanes cut start lines new before after asked known (Ok halt) = HaltsAt hear lanes cut start lines new before after asked known halt
-TellsHalt hear part lanes cut start lines new before after asked known (Err stop) =
-    (after ≡ before) ⊎ BreakOff hear part lanes cut start lines before after
+TellsHalt hear part columns cut start lines new before after asked known (Ok halt) = HaltsAt hear columns cut start lines new before after asked known halt
+TellsHalt hear part columns cut start lines new before after asked known (Err stop) =
+    (after ≡ before) ⊎ BreakOff hear part columns cut start lines before after

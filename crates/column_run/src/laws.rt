@@ -1,8 +1,8 @@
 //! Laws of the answer of a script in columns.
 
-ghost use Rattle.column_run.specs.Laws.{BatchAnswersAreUnique};
+ghost use Rattle.column_run.specs.Laws.{ColumnAnswersAreUnique};
 
 /// A law: a script in one column or more has one answer, since in each column it runs in one way.
-pub fn batches_have_one_answer()
-    ensures { BatchAnswersAreUnique }
+pub fn columns_have_one_answer()
+    ensures { ColumnAnswersAreUnique }
 {}

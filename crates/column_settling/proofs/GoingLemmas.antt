@@ -3,11 +3,11 @@ use Rattle.std.proofs.Common.{◌≡◌, ◌≢◌, ℕ, ◌+◌, ◌-◌, ◌<�
 use Rattle.std.proofs.lemmas.Bool.{cases_lt}
 use Rattle.ternary.specs.declared.tern.Tern.{Tern}
 use Rattle.ternary.specs.declared.tern.Tern.TheVariants.{Zero, One, Unk}
-use Rattle.path_meaning.specs.Graphs.{GraphData}
-use Rattle.path_meaning.specs.Step.{IsStep}
-use Rattle.path_meaning.proofs.UniqueSteps.{unique}
-use Rattle.oscillation_x.specs.Settling.{Stepping}
-use Rattle.oscillation_x.proofs.SettlingLemmas as one
+use Rattle.switch_paths.specs.Graphs.{GraphData}
+use Rattle.switch_paths.specs.Step.{IsStep}
+use Rattle.switch_paths.proofs.UniqueSteps.{unique}
+use Rattle.settling.specs.Settling.{Stepping}
+use Rattle.settling.proofs.SettlingLemmas as one
 use Rattle.column_settling.specs.Together.{StepsWithin}
 
 -- so many steps were taken together, and the column counts those that changed it: what steps it takes from here on go on from them, and it

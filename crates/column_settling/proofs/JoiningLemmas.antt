@@ -5,12 +5,12 @@ use Rattle.std.proofs.Math.Dec.{ltb}
 use Rattle.std.proofs.lemmas.List.{ext_get_or}
 use Rattle.ternary.specs.declared.tern.Tern.{Tern}
 use Rattle.ternary.specs.declared.tern.Tern.TheVariants.{Zero}
-use Rattle.path_meaning.specs.Graphs.{GraphData}
-use Rattle.path_meaning.specs.Step.{IsStep}
-use Rattle.path_meaning.proofs.UniqueSteps.{unique}
-use Rattle.oscillation_x.specs.Settling.{Stepping, IsJoinStep, Joining, Settles, StaysOrBecomesX}
-use Rattle.oscillation_x.proofs.KnownStates.{known}
-use Rattle.oscillation_x.proofs.SettlingLemmas as one
+use Rattle.switch_paths.specs.Graphs.{GraphData}
+use Rattle.switch_paths.specs.Step.{IsStep}
+use Rattle.switch_paths.proofs.UniqueSteps.{unique}
+use Rattle.settling.specs.Settling.{Stepping, IsJoinStep, Joining, Settles, StaysOrBecomesX}
+use Rattle.settling.proofs.KnownStates.{known}
+use Rattle.settling.proofs.SettlingLemmas as one
 use Rattle.column_settling.specs.Together.{StepTogether, JoinsWithin, JoinTogether, SettleTogether}
 use Rattle.column_settling.proofs.GoingLemmas.{same_state}
 

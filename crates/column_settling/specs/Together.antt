@@ -1,10 +1,10 @@
 -- Settling of columns together: what is told of all of them is the greatest count.
 use Rattle.std.specs.Prelude.{◌≡◌, ℕ, ◌<◌, ◌≤◌, ◌⊎◌, true, List}
 use Rattle.ternary.specs.declared.tern.Tern.{Tern}
-use Rattle.path_meaning.specs.Graphs.{GraphData}
-use Rattle.path_meaning.specs.Step.{IsStep}
-use Rattle.oscillation_x.specs.declared.settling.Settled.{Settled}
-use Rattle.oscillation_x.specs.Settling.{Stepping, Joining, Settles}
+use Rattle.switch_paths.specs.Graphs.{GraphData}
+use Rattle.switch_paths.specs.Step.{IsStep}
+use Rattle.settling.specs.declared.settling.Settled.{Settled}
+use Rattle.settling.specs.Settling.{Stepping, Joining, Settles}
 
 -- a column settles, with no more steps than are told of all, and joined only if that is told
 pub record SettlesWithin (g : GraphData) (old : List Tern) (limit : ℕ) (new : List Tern) (told : Settled) : Type 0 where

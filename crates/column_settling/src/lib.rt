@@ -11,8 +11,8 @@
 //! ```
 #![tactic(auto)]
 
-mod settling;
+mod phases;
 mod stepping;
 
-pub use settling::settle_columns;
+pub use phases::settle_columns;
 pub use stepping::ColumnStepper;

@@ -1,11 +1,11 @@
 //! What steps: the states of columns that take unit steps and joining steps of a graph.
 ghost use Rattle.std.specs.Prelude.{◌≡◌, ◌≢◌, ℕ, ◌^◌, ◌<◌, ◌≤◌, true, false, List, length, IfOk, OnOk, OnErr};
 ghost use Rattle.ternary.specs.declared.tern.Tern.{Tern};
-ghost use Rattle.path_meaning.specs.Graphs.{GraphData};
-ghost use Rattle.path_meaning.specs.Step.{IsStep};
-ghost use Rattle.oscillation_x.specs.Settling.{IsJoinStep, StaysOrBecomesX};
+ghost use Rattle.switch_paths.specs.Graphs.{GraphData};
+ghost use Rattle.switch_paths.specs.Step.{IsStep};
+ghost use Rattle.settling.specs.Settling.{IsJoinStep, StaysOrBecomesX};
 
-use path_meaning::Graph;
+use switch_paths::Graph;
 
 /// The states of columns, which move by unit steps together. A call answers whether it changed some column, or why the
 /// stepper ran out; then each column is as before.

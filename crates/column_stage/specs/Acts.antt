@@ -1,9 +1,9 @@
 -- What is done to a stage.
 use Rattle.std.specs.Prelude.{◌≡◌, ℕ, List, [], ◌∷◌, All}
 use Rattle.ternary.specs.declared.tern.Tern.{Tern}
-use Rattle.path_meaning.specs.Graphs.{GraphData}
+use Rattle.switch_paths.specs.Graphs.{GraphData}
 use Rattle.channel_groups.specs.declared.change.Change.{Change}
-use Rattle.oscillation_x.specs.declared.settling.Settled.{Settled}
+use Rattle.settling.specs.declared.settling.Settled.{Settled}
 
 -- room was taken for new nodes; a node of a graph was given these letters, one for all columns or one for each; the graph was edited; what takes
 -- its steps was built, with groups of up to so many members; a unit step was taken; or it settled under a limit, with these counts in the columns

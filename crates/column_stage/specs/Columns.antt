@@ -2,19 +2,19 @@
 use Rattle.std.specs.Prelude.{◌≡◌, ℕ, ◌-◌, ◌<◌, ◌==◌, ◌⊎◌, List, ◌++◌, length, replicate, All, IsTrue, if◌then◌else◌}
 use Rattle.ternary.specs.declared.tern.Tern.{Tern}
 use Rattle.ternary.specs.declared.tern.Tern.TheVariants.{Unk}
-use Rattle.path_meaning.specs.Graphs.{GraphData, nodes}
-use Rattle.path_meaning.specs.Rails.{IsSound}
-use Rattle.path_meaning.specs.Switching.{state_at}
+use Rattle.switch_paths.specs.Graphs.{GraphData, nodes}
+use Rattle.switch_paths.specs.Rails.{IsSound}
+use Rattle.switch_paths.specs.Switching.{state_at}
 use Rattle.group_text.specs.Texts.{GroupTextData}
 use Rattle.group_text.specs.FirstTexts.{is_among}
 
 -- the letter of a column: one alone is that of all columns
 abbrev pub letter_in : ℕ → List Tern → Tern
-letter_in lane letters = if length letters == 1 then state_at letters 0 else state_at letters lane
+letter_in column letters = if length letters == 1 then state_at letters 0 else state_at letters column
 
 -- one letter, or one for each column
 abbrev pub IsLetters : ℕ → List Tern → Type 0
-IsLetters lanes letters = (length letters ≡ 1) ⊎ (length letters ≡ lanes)
+IsLetters columns letters = (length letters ≡ 1) ⊎ (length letters ≡ columns)
 
 -- a state has one for each node, and the rails have theirs
 pub record IsSoundState (g : GraphData) (state : List Tern) : Type 0 where
@@ -23,7 +23,7 @@ pub record IsSoundState (g : GraphData) (state : List Tern) : Type 0 where
 
 -- so it is in each column
 abbrev pub AreSound : GraphData → ℕ → (ℕ → List Tern) → Type 0
-AreSound g lanes states = (lane : ℕ) → lane < lanes → IsSoundState g (states lane)
+AreSound g columns states = (column : ℕ) → column < columns → IsSoundState g (states column)
 
 -- the state with so many nodes: each new one is X
 abbrev pub with_new_nodes : List Tern → ℕ → List Tern

@@ -2,8 +2,8 @@
 -- In the manner of MOSSIM II: Bryant, "A Switch-Level Model and Simulator for MOS Digital Systems", 1984.
 use Rattle.std.specs.Prelude.{◌≡◌, ℕ, Bool, List, length}
 use Rattle.ternary.specs.declared.tern.Tern.{Tern}
-use Rattle.path_meaning.specs.Graphs.{GraphData}
-use Rattle.oscillation_x.specs.Passing.{SettlesThrough, last_state, see_all}
+use Rattle.switch_paths.specs.Graphs.{GraphData}
+use Rattle.settling.specs.Passing.{SettlesThrough, last_state, see_all}
 
 -- a state settles under a limit, by this number of unit steps, which pass through these states
 abbrev pub PhaseThrough : GraphData → ℕ → List Tern → ℕ → List (List Tern) → Type 0

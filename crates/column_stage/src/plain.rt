@@ -1,11 +1,11 @@
 //! The stage of a plain script: one column, whose states can be looked at.
 
 ghost use Rattle.std.specs.Prelude.{◌≡◌, ℕ, ◌≤◌, List, [], ◌∷◌, length, Option, IfSome};
-ghost use Rattle.path_meaning.specs.Graphs.{GraphData};
-ghost use Rattle.path_meaning.specs.Step.{IsStep};
-ghost use Rattle.oscillation_x.specs.declared.settling.TheConstants.{MOST_LIMIT};
-ghost use Rattle.oscillation_x.specs.Passing.{SteppingThrough};
-ghost use Rattle.oscillation_x.specs.Settling.{Settles};
+ghost use Rattle.switch_paths.specs.Graphs.{GraphData};
+ghost use Rattle.switch_paths.specs.Step.{IsStep};
+ghost use Rattle.settling.specs.declared.settling.TheConstants.{MOST_LIMIT};
+ghost use Rattle.settling.specs.Passing.{SteppingThrough};
+ghost use Rattle.settling.specs.Settling.{Settles};
 ghost use Rattle.channel_groups.specs.Grouping.{AreOf};
 ghost use Rattle.group_text.specs.FirstTexts.{first_texts};
 ghost use Rattle.group_text.specs.Texts.{GroupTextData};
@@ -15,8 +15,8 @@ ghost use Rattle.column_stage.specs.Seeing.{PhaseThrough, SeesStates};
 
 use crate::stage::Stage;
 use channel_groups::Groups;
-use oscillation_x::{MOST_LIMIT, Onlooker, Settled};
-use path_meaning::Graph;
+use settling::{MOST_LIMIT, Onlooker, Settled};
+use switch_paths::Graph;
 use ternary::Tern;
 
 /// A stage of one column: its states can be looked at, also while they move, and its groups and their texts be counted.
@@ -27,7 +27,7 @@ pub trait PlainStage: Stage {
 
     /// A stage at its start, in this state. Nothing was built, and it serves any graph.
     fn still(state: Vec<Tern>) -> Self
-        ensures one { Self.lanes result ≡ 1 }
+        ensures one { Self.columns result ≡ 1 }
         ensures state { Self.states result 0 ≡ state.items }
         ensures last { Self.last result ≡ [] }
         ensures serves { (g : GraphData) (kept : List GroupTextData) → Self.serves result g kept }
@@ -35,14 +35,14 @@ pub trait PlainStage: Stage {
 
     /// The state of each node.
     fn column(&self) -> &[Tern]
-        ensures one { Self.lanes self.now ≡ 1 }
+        ensures one { Self.columns self.now ≡ 1 }
         ensures value { result.now ≡ Self.states self.now 0 };
 
     /// Takes a unit step, and shows the state behind it if it changed.
     fn step_seen<O: Onlooker>(&mut self, graph: &Graph, onlooker: &mut O)
         requires fits { Self.fits self.old graph.now }
         requires knows { O.knows onlooker.old (Self.states self.old 0) }
-        ensures lanes { Self.lanes self.new ≡ Self.lanes self.old }
+        ensures columns { Self.columns self.new ≡ Self.columns self.old }
         ensures step { IsStep graph.now (Self.states self.old 0) (Self.states self.new 0) }
         ensures last { Self.last self.new ≡ Self.last self.old }
         ensures serves { (kept : List GroupTextData) → Self.serves self.old graph.now kept → Self.serves self.new graph.now kept }
@@ -57,7 +57,7 @@ pub trait PlainStage: Stage {
         requires low { 1 ≤ limit }
         requires high { limit ≤ MOST_LIMIT }
         requires knows { O.knows onlooker.old (Self.states self.old 0) }
-        ensures lanes { Self.lanes self.new ≡ Self.lanes self.old }
+        ensures columns { Self.columns self.new ≡ Self.columns self.old }
         ensures settles { Settles graph.now (Self.states self.old 0) limit (Self.states self.new 0) result.steps result.joined }
         ensures last { Self.last self.new ≡ Self.last self.old }
         ensures serves { (kept : List GroupTextData) → Self.serves self.old graph.now kept → Self.serves self.new graph.now kept }
@@ -82,7 +82,7 @@ pub trait PlainStage: Stage {
         ensures { IfSome result (λ groups. AreOf graph.now groups.now) };
 
     // There is one column, always.
-    ghost one: { (stage : Self) → Self.lanes stage ≡ 1 };
+    ghost one: { (stage : Self) → Self.columns stage ≡ 1 };
 
     // A build that ran out of memory analysed nothing, or a prefix of what is new.
     ghost cuts_off: { (large : ℕ) (g : GraphData) (bound : Option ℕ) (old new before after : List GroupTextData) →

@@ -2,14 +2,14 @@
 
 ghost use Rattle.std.specs.Prelude.{◌≡◌, ℕ, ◌+◌, ◌<◌, ◌≤◌, ◌⊎◌, List, Option, Err, length, slice_set, slice_index_or, IfOk, IfErr, OnOk, OnErr};
 ghost use Rattle.ternary.specs.declared.tern.Tern.{Tern};
-ghost use Rattle.path_meaning.specs.declared.TheConstants.{RAILS};
-ghost use Rattle.path_meaning.specs.Graphs.{GraphData, nodes};
-ghost use Rattle.path_meaning.specs.Rails.{IsRailed};
-ghost use Rattle.path_meaning.specs.Step.{IsStep};
-ghost use Rattle.path_meaning.specs.Switching.{state_at};
-ghost use Rattle.oscillation_x.specs.declared.settling.TheConstants.{MOST_LIMIT};
-ghost use Rattle.oscillation_x.specs.declared.settling.Settled.{Settled};
-ghost use Rattle.oscillation_x.specs.Settling.{Settles};
+ghost use Rattle.switch_paths.specs.declared.TheConstants.{RAILS};
+ghost use Rattle.switch_paths.specs.Graphs.{GraphData, nodes};
+ghost use Rattle.switch_paths.specs.Rails.{IsRailed};
+ghost use Rattle.switch_paths.specs.Step.{IsStep};
+ghost use Rattle.switch_paths.specs.Switching.{state_at};
+ghost use Rattle.settling.specs.declared.settling.TheConstants.{MOST_LIMIT};
+ghost use Rattle.settling.specs.declared.settling.Settled.{Settled};
+ghost use Rattle.settling.specs.Settling.{Settles};
 ghost use Rattle.group_text.specs.Texts.{GroupTextData};
 ghost use Rattle.group_analysis.specs.Using.{used_texts};
 ghost use Rattle.analysis_cache.specs.Keeping.{texts_of};
@@ -23,9 +23,9 @@ ghost use Rattle.column_stage.specs.declared.TheConstants.{NEW_NODES};
 use analysis_cache::{Analyst, Kept};
 use channel_groups::Change;
 use circuit_texts::BuildFault;
-use oscillation_x::{MOST_LIMIT, Settled};
-use path_meaning::Graph;
+use settling::{MOST_LIMIT, Settled};
 use std::alloc::Global;
+use switch_paths::Graph;
 use ternary::{NoMemory, Tern};
 
 /// The states of all columns, and what moves them, if it is there already.
@@ -36,7 +36,7 @@ use ternary::{NoMemory, Tern};
 /// steps of them; what a build may have analysed that ran out of memory; and what an act did to it, which is the
 /// instance's own.
 pub trait Stage: Drop {
-    ghost lanes: { Self → ℕ };
+    ghost columns: { Self → ℕ };
 
     ghost states: { Self → ℕ → List Tern };
 
@@ -53,24 +53,24 @@ pub trait Stage: Drop {
     ghost did: { Act → Self → Self → Type 0 };
 
     /// How many columns there are.
-    fn lanes(&self) -> u32
-        ensures value { result ≡ lanes self.now }
+    fn columns(&self) -> u32
+        ensures value { result ≡ columns self.now }
         ensures some { 1 ≤ result };
 
     /// The state of a node in a column.
-    fn state(&self, node: usize, lane: u32) -> Tern
-        requires lane { lane < lanes self.now }
-        requires node { node < length (states self.now lane) }
-        ensures { result ≡ state_at (states self.now lane) node };
+    fn state(&self, node: usize, column: u32) -> Tern
+        requires column { column < columns self.now }
+        requires node { node < length (states self.now column) }
+        ensures { result ≡ state_at (states self.now column) node };
 
     /// Gives a node that is no rail its states: one letter for all columns, or one for each.
     fn place(&mut self, graph: &Graph, node: usize, letters: &[Tern])
-        requires sound { AreSound graph.now (lanes self.old) (states self.old) }
+        requires sound { AreSound graph.now (columns self.old) (states self.old) }
         requires inside { node < nodes graph.now }
         requires no_rail { RAILS ≤ node }
-        requires letters { IsLetters (lanes self.old) letters.now }
-        ensures lanes { lanes self.new ≡ lanes self.old }
-        ensures states { (lane : ℕ) → lane < lanes self.old → states self.new lane ≡ slice_set (states self.old lane) node (letter_in lane letters.now) }
+        requires letters { IsLetters (columns self.old) letters.now }
+        ensures columns { columns self.new ≡ columns self.old }
+        ensures states { (column : ℕ) → column < columns self.old → states self.new column ≡ slice_set (states self.old column) node (letter_in column letters.now) }
         ensures last { last self.new ≡ last self.old }
         ensures serves { (kept : List GroupTextData) → serves self.old graph.now kept → serves self.new graph.now kept }
         ensures fits { fits self.old graph.now → fits self.new graph.now }
@@ -81,8 +81,8 @@ pub trait Stage: Drop {
     /// Out of memory too the states stay, and what moves them.
     fn reserve(&mut self) -> Result<(), NoMemory>
         ensures room { OnOk result (NEW_NODES ≤ spare self.new) }
-        ensures lanes { lanes self.new ≡ lanes self.old }
-        ensures states { (lane : ℕ) → lane < lanes self.old → states self.new lane ≡ states self.old lane }
+        ensures columns { columns self.new ≡ columns self.old }
+        ensures states { (column : ℕ) → column < columns self.old → states self.new column ≡ states self.old column }
         ensures last { last self.new ≡ last self.old }
         ensures serves { (g : GraphData) (kept : List GroupTextData) → serves self.old g kept → serves self.new g kept }
         ensures did { did Reserved self.old self.new };
@@ -90,11 +90,12 @@ pub trait Stage: Drop {
     /// Goes on after an edit of the graph: each new node is X in each column, in room that is there. What served the graph
     /// before serves the one after; if that lacks memory, what moves the states is let go.
     fn edit(&mut self, alloc: Global, graph: &Graph, change: &Change, kept: &mut Kept)
-        requires before { (before : GraphData) × IsUndone before graph.now change.now × AreSound before (lanes self.old) (states self.old)
+        requires before { (before : GraphData) × IsUndone before graph.now change.now × AreSound before (columns self.old) (states self.old)
             × (nodes graph.now ≤ nodes before + spare self.old) × serves self.old before (used_texts (last self.old) (texts_of kept.old)) }
         requires last { AreAmong (last self.old) (texts_of kept.old) }
-        ensures lanes { lanes self.new ≡ lanes self.old }
-        ensures states { (lane : ℕ) → lane < lanes self.old → states self.new lane ≡ with_new_nodes (states self.old lane) (nodes graph.now) }
+        ensures columns { columns self.new ≡ columns self.old }
+        ensures states { (column : ℕ) → column < columns self.old
+            → states self.new column ≡ with_new_nodes (states self.old column) (nodes graph.now) }
         ensures kept { used_texts (last self.new) (texts_of kept.new) ≡ used_texts (last self.old) (texts_of kept.old) }
         ensures last { AreAmong (last self.new) (texts_of kept.new) }
         ensures bound { kept.new.bound ≡ kept.old.bound }
@@ -115,13 +116,13 @@ pub trait Stage: Drop {
         analyst: &mut A,
     ) -> Result<u64, BuildFault>
         requires railed { IsRailed graph.now }
-        requires sound { AreSound graph.now (lanes self.old) (states self.old) }
+        requires sound { AreSound graph.now (columns self.old) (states self.old) }
         requires serves { serves self.old graph.now (used_texts (last self.old) (texts_of kept.old)) }
         requires last { AreAmong (last self.old) (texts_of kept.old) }
         ensures fits { OnOk result (fits self.new graph.now) }
         ensures serves { serves self.new graph.now (used_texts (last self.new) (texts_of kept.new)) }
-        ensures lanes { lanes self.new ≡ lanes self.old }
-        ensures states { (lane : ℕ) → lane < lanes self.old → states self.new lane ≡ states self.old lane }
+        ensures columns { columns self.new ≡ columns self.old }
+        ensures states { (column : ℕ) → column < columns self.old → states self.new column ≡ states self.old column }
         ensures builds { IfOk result (Builds large graph.now kept.old.bound (used_texts (last self.old) (texts_of kept.old)) (used_texts (last self.new) (texts_of kept.new))
             (A.analysed analyst.old) (A.analysed analyst.new)) }
         ensures last { AreAmong (last self.new) (texts_of kept.new) }
@@ -136,8 +137,8 @@ pub trait Stage: Drop {
     /// Takes a unit step in each column.
     fn step(&mut self, graph: &Graph)
         requires { fits self.old graph.now }
-        ensures lanes { lanes self.new ≡ lanes self.old }
-        ensures steps { (lane : ℕ) → lane < lanes self.old → IsStep graph.now (states self.old lane) (states self.new lane) }
+        ensures columns { columns self.new ≡ columns self.old }
+        ensures steps { (column : ℕ) → column < columns self.old → IsStep graph.now (states self.old column) (states self.new column) }
         ensures last { last self.new ≡ last self.old }
         ensures serves { (kept : List GroupTextData) → serves self.old graph.now kept → serves self.new graph.now kept }
         ensures fits { fits self.new graph.now }
@@ -148,11 +149,11 @@ pub trait Stage: Drop {
         requires fits { fits self.old graph.now }
         requires low { 1 ≤ limit }
         requires high { limit ≤ MOST_LIMIT }
-        requires counts { length counts.old ≡ lanes self.old }
-        ensures lanes { lanes self.new ≡ lanes self.old }
-        ensures counts { length counts.new ≡ lanes self.old }
-        ensures settles { (lane : ℕ) (past : Settled) → lane < lanes self.old
-            → Settles graph.now (states self.old lane) limit (states self.new lane) (slice_index_or counts.new lane past).steps (slice_index_or counts.new lane past).joined }
+        requires counts { length counts.old ≡ columns self.old }
+        ensures columns { columns self.new ≡ columns self.old }
+        ensures counts { length counts.new ≡ columns self.old }
+        ensures settles { (column : ℕ) (past : Settled) → column < columns self.old
+            → Settles graph.now (states self.old column) limit (states self.new column) (slice_index_or counts.new column past).steps (slice_index_or counts.new column past).joined }
         ensures last { last self.new ≡ last self.old }
         ensures serves { (kept : List GroupTextData) → serves self.old graph.now kept → serves self.new graph.now kept }
         ensures fits { fits self.new graph.now }

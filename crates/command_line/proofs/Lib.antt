@@ -1,1 +1,1 @@
-pub mod LaneLemmas
+pub mod ColumnLemmas

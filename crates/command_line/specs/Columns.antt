@@ -2,12 +2,12 @@
 use Rattle.std.specs.Prelude.{ℕ, List, ◌&&◌, nat_le, if◌then◌else◌, Option, Some, None}
 use Rattle.std.specs.Option.{option_and_then}
 use Rattle.line_words.specs.Decimals.{decimal_of}
-use Rattle.command_line.specs.declared.lanes.Lanes as code_lanes
+use Rattle.command_line.specs.declared.column_count.ColumnCount as code_columns
 
 -- the number of columns that a word writes: 1 to 64
-abbrev pub lanes_of : List ℕ → Option ℕ
-lanes_of word = option_and_then (λ lanes. if nat_le 1 lanes && nat_le lanes 64 then Some lanes else None) (decimal_of word)
+abbrev pub columns_of : List ℕ → Option ℕ
+columns_of word = option_and_then (λ columns. if nat_le 1 columns && nat_le columns 64 then Some columns else None) (decimal_of word)
 
 -- a number of columns of the code, as it is meant here
-abbrev pub lanes_seen : code_lanes.Lanes → ℕ
-lanes_seen lanes = lanes.count
+abbrev pub columns_seen : code_columns.ColumnCount → ℕ
+columns_seen columns = columns.count

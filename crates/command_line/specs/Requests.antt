@@ -14,7 +14,7 @@ use Rattle.command_line.specs.declared.request.Report as code_report
 use Rattle.command_line.specs.declared.request.Report.TheVariants as code_report_is
 use Rattle.command_line.specs.declared.request.Request as code_request
 use Rattle.command_line.specs.declared.request.Request.TheVariants as code_request_is
-use Rattle.command_line.specs.Columns.{lanes_of, lanes_seen}
+use Rattle.command_line.specs.Columns.{columns_of, columns_seen}
 use Rattle.command_line.specs.Decks.{is_deck_name}
 use Rattle.command_line.specs.Samples.{Sample, part_of, sample_of, sample_seen}
 
@@ -102,7 +102,7 @@ sum_up None = Unclear
 
 -- the run of a script in columns, where a word tells how many
 abbrev pub in_columns : List ℕ → Option ℕ → List ℕ → Request
-in_columns net (Some lanes) script = About net (Batch lanes script)
+in_columns net (Some columns) script = About net (Batch columns script)
 in_columns net None script = Unclear
 
 -- what four words ask for, by the first: `large KIND SEED N`, `why NET SCRIPT NODE`, `faults NET SCRIPT LIST` or `batch NET L SCRIPT`
@@ -111,7 +111,7 @@ by_four command first second third =
     if bytes_eq command (codes "large") then sum_up (sample_of first second third)
     else (if bytes_eq command (codes "why") then About first (Explain second third)
     else (if bytes_eq command (codes "faults") then About first (Judge second third)
-    else (if bytes_eq command (codes "batch") then in_columns first (lanes_of second) third else Unclear)))
+    else (if bytes_eq command (codes "batch") then in_columns first (columns_of second) third else Unclear)))
 
 -- what words ask for, by their number: `sim NET SCRIPT`, `sim-spice DECK SCRIPT`, `check NET`, `groups NET`, `compile NET`, `lint NET`,
 -- `gen PART KIND SEED N`, `large KIND SEED N`, `why NET SCRIPT NODE`, `faults NET SCRIPT LIST`, `batch NET L SCRIPT`, `cover NET SCRIPT`, `help`,
@@ -127,7 +127,7 @@ request_of _ = Unclear
 -- the question for a run of the script with this name for a purpose of the code
 abbrev pub run_seen : code_purpose.Purpose → List ℕ → Question
 run_seen code_purpose_is.Lines script = Simulate script
-run_seen (code_purpose_is.Columns lanes) script = Batch (lanes_seen lanes) script
+run_seen (code_purpose_is.Columns columns) script = Batch (columns_seen columns) script
 run_seen (code_purpose_is.Reasons node) script = Explain script node.now
 run_seen code_purpose_is.Cover script = Cover script
 

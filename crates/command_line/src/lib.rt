@@ -15,19 +15,19 @@
 //! request_of(["help", "del"])                           is Alone(Show("del K\nRemoves transistor K. ..\n"))
 //! ```
 //!
-//! The proofs of crates above cite `LaneLemmas`, whose head says what it is of.
+//! The proofs of crates above cite `ColumnLemmas`, whose head says what it is of.
 #![tactic(auto)]
 
+mod column_count;
 mod columns;
 mod decks;
-mod lanes;
 mod request;
 mod sample;
 mod talks;
 
-pub use columns::lanes_of;
+pub use column_count::ColumnCount;
+pub use columns::columns_of;
 pub use decks::is_deck_name;
-pub use lanes::Lanes;
 pub use request::{Alone, Purpose, Question, Report, Request, request_of};
 pub use sample::Sample;
 pub use talks::{dump_names, talk_net};

@@ -6,9 +6,9 @@ ghost use Rattle.command_line.specs.Requests as spec;
 ghost use Rattle.command_line.specs.Samples as samples;
 ghost use Rattle.command_line.specs.Columns as columns;
 
-use crate::columns::lanes_of;
+use crate::column_count::ColumnCount;
+use crate::columns::columns_of;
 use crate::decks::is_deck_name;
-use crate::lanes::Lanes;
 use crate::sample::Sample;
 use help_texts::{page, topic, version};
 use line_words::decimal;
@@ -67,7 +67,7 @@ pub enum Purpose<'a> {
     /// What they write.
     Lines,
     /// What they write in so many columns of the circuit.
-    Columns(Lanes),
+    Columns(ColumnCount),
     /// The reasons of the node with this name at their end.
     Reasons(&'a str),
     /// Which of 0 and 1 each node never had.
@@ -172,7 +172,7 @@ fn by_four<'a>(command: &str, first: &'a str, second: &'a str, third: &'a str) -
     } else if command == "faults" {
         judgement(first, second, third)
     } else if command == "batch" {
-        in_columns(first, lanes_of(second), third)
+        in_columns(first, columns_of(second), third)
     } else {
         Request::Alone(Alone::Unclear)
     }
@@ -212,11 +212,11 @@ fn judgement<'a>(net: &'a str, script: &'a str, list: &'a str) -> Request<'a>
 }
 
 // The run of a script in columns, if it is told how many.
-fn in_columns<'a>(net: &'a str, lanes: Option<Lanes>, script: &'a str) -> Request<'a>
-    ensures { spec.request_seen result ≡ spec.in_columns net.now (option_map columns.lanes_seen lanes) script.now }
+fn in_columns<'a>(net: &'a str, count: Option<ColumnCount>, script: &'a str) -> Request<'a>
+    ensures { spec.request_seen result ≡ spec.in_columns net.now (option_map columns.columns_seen count) script.now }
 {
-    match lanes {
-        Some(lanes) => run_for(net, script, Purpose::Columns(lanes)),
+    match count {
+        Some(count) => run_for(net, script, Purpose::Columns(count)),
         None => Request::Alone(Alone::Unclear),
     }
 }

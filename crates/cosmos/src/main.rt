@@ -54,7 +54,7 @@ use cosmos_app::{Status, dump, run, talk};
 use group_analysis::Analyst;
 use machine_stage::MachineStage;
 use node_elimination::SymbolicAnalyst;
-use port_edge::{FilesOver, Open, Outlet, SinkOver, real_files, real_outlet};
+use ports::{FilesOver, Open, Outlet, SinkOver, real_files, real_outlet};
 use std::alloc::Global;
 use std::hash::RandomState;
 use std::process::ExitCode;

@@ -2,7 +2,7 @@
 
 ghost use Rattle.std.specs.Prelude.{◌≡◌};
 
-use port_edge::{NotedFile, Outlet};
+use ports::{NotedFile, Outlet};
 use std::io::{self, IsTerminal};
 use talk_port::Flush;
 

@@ -1,6 +1,6 @@
 -- What was told of the case of a question or a request is told of the question and of the request; what needs no file starts and reads none.
 use Rattle.std.proofs.Common.{◌≡◌, ℕ, List, [], Option, IfSome, Result, IfOk, refl, sym, subst}
-use Rattle.port_edge.specs.Taken.{Taken}
+use Rattle.ports.specs.Taken.{Taken}
 use Rattle.netlist.specs.Circuits.{CircuitData}
 use Rattle.group_text.specs.Texts.{GroupTextData}
 use Rattle.run_ends.specs.declared.stop.Stop.{Stop}

@@ -1,8 +1,8 @@
 -- What is told of the script and the list of faults that were read is told of their files, which were started and read one after the other.
 use Rattle.std.proofs.Common.{◌≡◌, ℕ, inl, inr, List, [], ◌∷◌, length, Option, None, Some, IfSome, Result, ap, subst, ◌∙◌}
 use Rattle.line_words.specs.Files.{front_of}
-use Rattle.port_edge.specs.Ports.{with_name}
-use Rattle.port_edge.specs.Taken.{Taken, with_files}
+use Rattle.ports.specs.Ports.{with_name}
+use Rattle.ports.specs.Taken.{Taken, with_files}
 use Rattle.netlist.specs.Circuits.{CircuitData}
 use Rattle.group_text.specs.Texts.{GroupTextData}
 use Rattle.run_ends.specs.declared.stop.Stop.{Stop}

@@ -1,6 +1,6 @@
 -- What is told of the text that was read of a netlist or a deck is told of the file.
 use Rattle.std.proofs.Common.{◌≡◌, ℕ, List, [], Option, None, Some, IfSome, Result, refl, sym, subst}
-use Rattle.port_edge.proofs.ResultLemmas.{at_known}
+use Rattle.ports.proofs.ResultLemmas.{at_known}
 use Rattle.group_text.specs.Texts.{GroupTextData}
 use Rattle.run_ends.specs.declared.stop.Stop.{Stop}
 use Rattle.run_ends.specs.declared.stop.End as end

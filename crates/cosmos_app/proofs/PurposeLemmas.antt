@@ -6,7 +6,7 @@ use Rattle.netlist.specs.Circuits.{CircuitData}
 use Rattle.group_text.specs.Texts.{GroupTextData}
 use Rattle.told_lines.specs.Printing.{Page, PrinterData, print, PrintsPart}
 use Rattle.session_meaning.specs.Sessions.{SessionData, start_of}
-use Rattle.column_run.specs.Batches.{IsBatchAnswer}
+use Rattle.column_run.specs.ColumnAnswers.{IsColumnAnswer}
 use Rattle.column_run.proofs.RunLemmas.{in_all-same}
 use Rattle.run_ends.specs.declared.stop.Stop.{Stop}
 use Rattle.run_ends.specs.declared.stop.End as end
@@ -19,8 +19,8 @@ use Rattle.script_meaning.proofs.PrintedLemmas.{printed_run}
 use Rattle.command_line.specs.declared.request.Purpose.{Purpose}
 use Rattle.command_line.specs.declared.request.Purpose.TheVariants.{Lines, Columns, Reasons, Cover}
 use Rattle.command_line.specs.Requests.{run_seen}
-use Rattle.cosmos_app.specs.Batching.{IsBatch}
-use Rattle.command_line.specs.Columns.{lanes_seen}
+use Rattle.cosmos_app.specs.ColumnRuns.{IsColumnRun}
+use Rattle.command_line.specs.Columns.{columns_seen}
 use Rattle.cosmos_app.specs.Answers.{IsSimulation, IsAnswerIn}
 use Rattle.cosmos_app.specs.Purposes.{IsRunFor}
 use Rattle.circuit_files.specs.Starts.{Started, StartsAtMost}
@@ -44,29 +44,31 @@ told_lines circuit start new text printer plain after asked told result first se
     (ap (λ (now : PrinterData). now.page.numbered) set) run))
 
 -- the answer of columns at their start is that in so many columns
-answers_columns : (lanes count : ℕ) (circuit : CircuitData) (columns : ℕ → SessionData) (text : List ℕ) (answer : Answer) → count ≡ lanes →
-    ((lane : ℕ) → lane < count → columns lane ≡ start_of circuit) → IsBatchAnswer count (cut_line text) columns (lines_in text) answer →
-    IsBatch lanes text circuit answer
-answers_columns lanes count circuit columns text answer same start right =
-    subst (λ (n : ℕ). IsBatch n text circuit answer) same
+answers_columns : (columns count : ℕ) (circuit : CircuitData) (sessions : ℕ → SessionData) (text : List ℕ) (answer : Answer) → count ≡ columns →
+    ((column : ℕ) → column < count → sessions column ≡ start_of circuit) → IsColumnAnswer count (cut_line text) sessions (lines_in text) answer →
+    IsColumnRun columns text circuit answer
+answers_columns columns count circuit sessions text answer same start right =
+    subst (λ (n : ℕ). IsColumnRun n text circuit answer) same
     (record {
       rows = right.rows;
       refused = right.refused;
-      runs = in_all-same count (cut_line text) (λ lane. start_of circuit) columns (lines_in text) right.rows answer.texts right.refused start right.runs;
+      runs = in_all-same count (cut_line text) (λ column. start_of circuit) sessions (lines_in text) right.rows answer.texts right.refused start right.runs;
       told = right.told;
     })
 
 -- so it is with columns whose lines were told to a printer once it was set to number columns
-pub told_columns : (lanes count : ℕ) (circuit : CircuitData) (columns : ℕ → SessionData) (text : List ℕ) (printer numbered : PrinterData) (after : Option (List ℕ))
-    (asked told : List GroupTextData) (result : Result end.End Stop) → count ≡ lanes → ((lane : ℕ) → lane < count → columns lane ≡ start_of circuit) →
+pub told_columns : (columns count : ℕ) (circuit : CircuitData) (sessions : ℕ → SessionData) (text : List ℕ) (printer numbered : PrinterData) (after : Option (List ℕ))
+    (asked told : List GroupTextData) (result : Result end.End Stop) → count ≡ columns →
+    ((column : ℕ) → column < count → sessions column ≡ start_of circuit) →
     numbered ≡ record printer { page = record printer.page { numbered = true } } →
-    IsToldBy (IsBatchAnswer count (cut_line text) columns (lines_in text)) numbered.page.written after asked told result →
-    IsToldBy (IsBatch lanes text circuit) printer.page.written after asked told result
-told_columns lanes count circuit columns text printer numbered after asked told result same start set run =
-    told_by_as (IsBatchAnswer count (cut_line text) columns (lines_in text)) (IsBatch lanes text circuit) printer.page.written after asked told result
-    (λ answer right. answers_columns lanes count circuit columns text answer same start right)
+    IsToldBy (IsColumnAnswer count (cut_line text) sessions (lines_in text)) numbered.page.written after asked told result →
+    IsToldBy (IsColumnRun columns text circuit) printer.page.written after asked told result
+told_columns columns count circuit sessions text printer numbered after asked told result same start set run =
+    told_by_as (IsColumnAnswer count (cut_line text) sessions (lines_in text)) (IsColumnRun columns text circuit) printer.page.written
+    after asked told result
+    (λ answer right. answers_columns columns count circuit sessions text answer same start right)
     (subst
-    (λ (before : Option (List ℕ)). IsToldBy (IsBatchAnswer count (cut_line text) columns (lines_in text)) before after asked told result)
+    (λ (before : Option (List ℕ)). IsToldBy (IsColumnAnswer count (cut_line text) sessions (lines_in text)) before after asked told result)
     (ap (λ (now : PrinterData). now.page.written) set) run)
 
 -- ---- the text that was read
@@ -83,8 +85,8 @@ run_for-front : (purpose : Purpose) (script : List ℕ) (circuit : CircuitData) 
     IsRunFor purpose script circuit answer
 run_for-front Lines script circuit answer right =
     at_front (λ cut lines. IsScriptAnswer plain_reading cut (start_of circuit) lines answer) script right
-run_for-front (Columns lanes) script circuit answer right =
-    at_front (λ cut lines. IsBatchAnswer (lanes_seen lanes) cut (λ lane. start_of circuit) lines answer) script right
+run_for-front (Columns columns) script circuit answer right =
+    at_front (λ cut lines. IsColumnAnswer (columns_seen columns) cut (λ column. start_of circuit) lines answer) script right
 run_for-front (Reasons node) script circuit answer right = record {
   outcome = right.outcome;
   runs = at_front (λ cut lines. Runs plain_reading cut (start_of circuit) lines right.outcome) script right.runs;
@@ -124,18 +126,18 @@ pub told_asked : (known : Option (List ℕ → List ℕ)) (script : List ℕ) (p
     IfSome known (λ holds. IsToldBy (IsRunFor purpose (holds script) circuit) old new before after result) →
     IfSome known (λ holds. IsToldBy (IsAnswerIn (run_seen purpose script) holds circuit) old new before after result)
 told_asked known script Lines circuit old new before after result told = told
-told_asked known script (Columns lanes) circuit old new before after result told = told
+told_asked known script (Columns columns) circuit old new before after result told = told
 told_asked known script (Reasons node) circuit old new before after result told = told
 told_asked known script Cover circuit old new before after result told = told
 
 pub starts_asked : (script : List ℕ) (purpose : Purpose) (old new : Started) → StartsAtMost old new script → ScriptStarts (run_seen purpose script) old new
 starts_asked script Lines old new starts = starts
-starts_asked script (Columns lanes) old new starts = starts
+starts_asked script (Columns columns) old new starts = starts
 starts_asked script (Reasons node) old new starts = starts
 starts_asked script Cover old new starts = starts
 
 pub scripts_asked : (script : List ℕ) (purpose : Purpose) → script ∷ [] ≡ scripts_of (run_seen purpose script)
 scripts_asked script Lines = refl
-scripts_asked script (Columns lanes) = refl
+scripts_asked script (Columns columns) = refl
 scripts_asked script (Reasons node) = refl
 scripts_asked script Cover = refl

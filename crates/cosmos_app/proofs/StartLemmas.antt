@@ -1,6 +1,6 @@
 -- Which files a run started, joined from what each call says of it.
 use Rattle.std.proofs.Common.{◌≡◌, ℕ, inr, List, Option, None, Some, IfSome, Result, Ok, sym, subst}
-use Rattle.port_edge.specs.Ports.{with_name}
+use Rattle.ports.specs.Ports.{with_name}
 use Rattle.netlist.specs.Circuits.{CircuitData}
 use Rattle.command_line.specs.Requests.{Question}
 use Rattle.circuit_files.specs.Starts.{Started}

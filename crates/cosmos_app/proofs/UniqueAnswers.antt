@@ -6,12 +6,12 @@ use Rattle.sim_read.specs.Meaning.{netlist_of}
 use Rattle.spice_read.specs.Making.{circuit_of}
 use Rattle.command_line.specs.Decks.{is_deck_name}
 use Rattle.command_line.specs.Requests.{Question, Simulate, Batch, Check, Groups, Compile, Lint, Explain, Judge, Cover, Request, About, Generate, SumUp, OverDeck, Show, Unclear, request_of}
-use Rattle.command_line.proofs.LaneLemmas.{HasColumns, AsksColumns, asks_columns}
+use Rattle.command_line.proofs.ColumnLemmas.{HasColumns, AsksColumns, asks_columns}
 use Rattle.session_meaning.specs.Sessions.{start_of}
 use Rattle.run_ends.specs.Answers.{Answer}
 use Rattle.script_meaning.specs.Runs.{plain_reading}
 use Rattle.script_meaning.proofs.UniqueRuns.{answer_unique}
-use Rattle.column_run.proofs.UniqueBatches.{batch_unique}
+use Rattle.column_run.proofs.UniqueColumnAnswers.{columns_unique}
 use Rattle.fault_meaning.proofs.UniqueJudging.{judged_faults_unique}
 use Rattle.circuit_reports.specs.Alike.{AreAlike}
 use Rattle.circuit_reports.proofs.UniqueAnswers as circuit
@@ -32,8 +32,8 @@ simulated_unique script c first second one two = answer_unique plain_reading (cu
 question_unique : (question : Question) (holds : List ℕ → List ℕ) → leaves_choice question ≡ false → HasColumns question →
     (c : CircuitData) (first second : Answer) → IsAnswerIn question holds c first → IsAnswerIn question holds c second → first ≡ second
 question_unique (Simulate script) holds plain some c first second one two = simulated_unique (holds script) c first second one two
-question_unique (Batch lanes script) holds plain some c first second one two =
-    batch_unique lanes (cut_line (holds script)) (λ lane. start_of c) (lines_in (holds script)) first second some one two
+question_unique (Batch columns script) holds plain some c first second one two =
+    columns_unique columns (cut_line (holds script)) (λ column. start_of c) (lines_in (holds script)) first second some one two
 question_unique Check holds plain some c first second one two = one ∙ sym two
 question_unique Groups holds plain some c first second one two = circuit.groups_unique c first second one two
 question_unique Compile holds plain some c first second one two = absurd (cc (plain))
@@ -64,8 +64,8 @@ question_alike : (question : Question) (holds : List ℕ → List ℕ) → HasCo
     IsAnswerIn question holds c first → IsAnswerIn question holds c second → AreAlike first second
 question_alike (Simulate script) holds some c first second one two =
     circuit.alike first second (question_unique (Simulate script) holds refl some c first second one two)
-question_alike (Batch lanes script) holds some c first second one two =
-    circuit.alike first second (question_unique (Batch lanes script) holds refl some c first second one two)
+question_alike (Batch columns script) holds some c first second one two =
+    circuit.alike first second (question_unique (Batch columns script) holds refl some c first second one two)
 question_alike Check holds some c first second one two = circuit.alike first second (question_unique Check holds refl some c first second one two)
 question_alike Groups holds some c first second one two = circuit.alike first second (question_unique Groups holds refl some c first second one two)
 question_alike Compile holds some c first second one two = circuit.compiled_alike c first second one two

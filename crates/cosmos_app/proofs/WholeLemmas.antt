@@ -1,7 +1,7 @@
 -- How much of its files a run has read, joined from what each call says of it.
 use Rattle.std.proofs.Common.{◌≡◌, ℕ, List, [], ◌∷◌, Option, None, Some, IfSome, IfOk, Result, Ok, Err, sym, subst}
 use Rattle.netlist.specs.Circuits.{CircuitData}
-use Rattle.port_edge.specs.Taken.{Taken}
+use Rattle.ports.specs.Taken.{Taken}
 use Rattle.run_ends.specs.declared.stop.End as end
 use Rattle.run_ends.specs.declared.stop.End.TheVariants as ended
 use Rattle.run_ends.specs.declared.stop.Stop.{Stop}

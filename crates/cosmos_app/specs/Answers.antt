@@ -8,7 +8,7 @@ use Rattle.group_text.specs.Texts.{GroupTextData}
 use Rattle.session_meaning.specs.Sessions.{start_of}
 use Rattle.run_ends.specs.declared.status.Status.{Status}
 use Rattle.run_ends.specs.declared.status.Status.TheVariants as status
-use Rattle.cosmos_app.specs.Batching.{IsBatch}
+use Rattle.cosmos_app.specs.ColumnRuns.{IsColumnRun}
 use Rattle.command_line.specs.Requests.{Question, Simulate, Batch, Check, Groups, Compile, Lint, Explain, Judge, Cover, Request, About, Generate, SumUp, OverDeck, Show, Unclear, request_of}
 use Rattle.run_ends.specs.Answers.{Answer, IsWritten, IsStopped, IsAnalysed}
 use Rattle.script_meaning.specs.Runs.{plain_reading, IsScriptAnswer}
@@ -25,7 +25,7 @@ IsSimulation script circuit answer = IsScriptAnswer plain_reading (cut_line scri
 -- the answer to a question about a circuit, by what the names hold
 abbrev pub IsAnswerIn : Question → (List ℕ → List ℕ) → CircuitData → Answer → Type 0
 IsAnswerIn (Simulate script) holds = IsSimulation (holds script)
-IsAnswerIn (Batch lanes script) holds = IsBatch lanes (holds script)
+IsAnswerIn (Batch columns script) holds = IsColumnRun columns (holds script)
 IsAnswerIn Check holds = IsCheck
 IsAnswerIn Groups holds = IsGroups
 IsAnswerIn Compile holds = IsCompiled

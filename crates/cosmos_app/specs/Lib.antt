@@ -1,4 +1,4 @@
-pub mod Batching
+pub mod ColumnRuns
 pub mod Answers
 pub mod Purposes
 pub mod Starts

@@ -1,6 +1,6 @@
 -- Which files a run starts, and in which order.
 use Rattle.std.specs.Prelude.{◌≡◌, ℕ, ⊤, ◌⊎◌, List, Option, IfSome, Result, Ok, Err}
-use Rattle.port_edge.specs.Ports.{with_name}
+use Rattle.ports.specs.Ports.{with_name}
 use Rattle.netlist.specs.Circuits.{CircuitData}
 use Rattle.sim_read.specs.Meaning.{netlist_of}
 use Rattle.spice_read.specs.Making.{circuit_of}
@@ -15,7 +15,7 @@ StartsInOrder old new first second = StartsAtMost old new first ⊎ (new ≡ wit
 -- script, or both its script and its list
 abbrev pub ScriptStarts : Question → Started → Started → Type 0
 ScriptStarts (Simulate script) old new = StartsAtMost old new script
-ScriptStarts (Batch lanes script) old new = StartsAtMost old new script
+ScriptStarts (Batch columns script) old new = StartsAtMost old new script
 ScriptStarts (Explain script node) old new = StartsAtMost old new script
 ScriptStarts (Judge script list) old new = StartsInOrder old new script list
 ScriptStarts (Cover script) old new = StartsAtMost old new script

@@ -3,7 +3,7 @@ use Rattle.std.specs.Prelude.{ℕ, List, [], ◌∷◌, ◌++◌, Result, Ok, Er
 use Rattle.netlist.specs.Circuits.{CircuitData}
 use Rattle.sim_read.specs.Meaning.{netlist_of}
 use Rattle.spice_read.specs.Making.{circuit_of}
-use Rattle.port_edge.specs.Taken.{Taken}
+use Rattle.ports.specs.Taken.{Taken}
 use Rattle.run_ends.specs.declared.status.Status.{Status}
 use Rattle.run_ends.specs.declared.status.Status.TheVariants.{ReadFault, WriteFault, NoMemory}
 use Rattle.command_line.specs.Requests.{Question, Simulate, Batch, Explain, Judge, Cover, Request, About, Generate, SumUp, OverDeck, Show, Unclear}
@@ -12,7 +12,7 @@ use Rattle.circuit_files.specs.Wholes.{ReadsWhole}
 -- the files that a question needs beside the netlist or the deck, the last one first
 abbrev pub scripts_of : Question → List (List ℕ)
 scripts_of (Simulate script) = script ∷ []
-scripts_of (Batch lanes script) = script ∷ []
+scripts_of (Batch columns script) = script ∷ []
 scripts_of (Explain script node) = script ∷ []
 scripts_of (Judge script list) = list ∷ script ∷ []
 scripts_of (Cover script) = script ∷ []

@@ -1,7 +1,7 @@
 //! The dump of a script's run, over a netlist or a deck.
 
 ghost use Rattle.std.specs.Prelude.{◌≡◌, ◌+◌, [], ◌∷◌, IfOk, IfSome};
-ghost use Rattle.port_edge.specs.Taken.{TakesFiles};
+ghost use Rattle.ports.specs.Taken.{TakesFiles};
 ghost use Rattle.netlist.specs.Circuits.{IsCircuit};
 ghost use Rattle.sim_read.specs.Meaning.{netlist_of};
 ghost use Rattle.spice_read.specs.Making.{circuit_of};
@@ -26,7 +26,7 @@ use dump_run::dump_script;
 use group_analysis::Analyst;
 use line_words::MOST_FILE_BYTES;
 use netlist::Circuit;
-use port_edge::{Files, Sink};
+use ports::{Files, Sink};
 use run_ends::{End, Status, Stop};
 use std::alloc::Global;
 

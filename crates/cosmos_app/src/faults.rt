@@ -1,7 +1,7 @@
 //! Judging the faults of a list that a file holds.
 
 ghost use Rattle.std.specs.Prelude.{◌≡◌, ◌+◌, [], ◌∷◌, IfSome, IfOk};
-ghost use Rattle.port_edge.specs.Taken.{TakesFiles};
+ghost use Rattle.ports.specs.Taken.{TakesFiles};
 ghost use Rattle.netlist.specs.Circuits.{HasVisibleNames};
 ghost use Rattle.run_ends.specs.Stops.{faults_read, faults_written, IsRefusedOnce};
 ghost use Rattle.run_ends.specs.Ends.{IsToldBy, IsUntouched};
@@ -15,7 +15,7 @@ use fault_runs::judge_faults;
 use group_analysis::Analyst;
 use line_words::MOST_FILE_BYTES;
 use netlist::Circuit;
-use port_edge::{Files, Sink};
+use ports::{Files, Sink};
 use run_ends::{End, Stop};
 use std::alloc::Global;
 use told_lines::Printer;

@@ -33,7 +33,7 @@
 //! ```
 #![tactic(auto)]
 
-mod batch;
+mod columns;
 mod dumping;
 mod faults;
 mod laws;

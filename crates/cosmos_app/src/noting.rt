@@ -1,8 +1,8 @@
 //! A sink in memory that keeps a note.
 ghost use Rattle.std.specs.Prelude.{◌≡◌, Some};
-ghost use Rattle.port_edge.specs.HonestPorts.{unwritten};
+ghost use Rattle.ports.specs.HonestPorts.{unwritten};
 
-use port_edge::{HonestSink, NotedFile, PortFault, Sink};
+use ports::{HonestSink, NotedFile, PortFault, Sink};
 use std::alloc::Global;
 use std::marker::Model;
 use talk_port::Talk;
@@ -16,7 +16,7 @@ pub(crate) struct NotingSink {
 }
 
 impl Model for NotingSink {
-    ghost use Rattle.port_edge.specs.HonestPorts.{HonestSinkData};
+    ghost use Rattle.ports.specs.HonestPorts.{HonestSinkData};
 
     ghost Value = { HonestSinkData };
 

@@ -11,7 +11,7 @@ use circuit_reports::{list_findings, list_groups, report_check, write_listing};
 use command_line::Report;
 use group_analysis::Analyst;
 use netlist::Circuit;
-use port_edge::Sink;
+use ports::Sink;
 use run_ends::{End, Stop};
 use std::alloc::Global;
 use table_keys::TableKeys;

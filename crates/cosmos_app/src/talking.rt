@@ -1,8 +1,8 @@
 //! A talk about a netlist or a deck.
 
 ghost use Rattle.std.specs.Prelude.{◌≡◌, ◌≢◌, ◌+◌, IfErr, IfSome, OnOk};
-ghost use Rattle.port_edge.specs.Ports.{faults_after};
-ghost use Rattle.port_edge.specs.Taken.{TakesFiles};
+ghost use Rattle.ports.specs.Ports.{faults_after};
+ghost use Rattle.ports.specs.Taken.{TakesFiles};
 ghost use Rattle.circuit_files.specs.Starts.{StartsAtMost};
 ghost use Rattle.circuit_reports.specs.Answers.{IsDeckRefusal, IsNetRefusal};
 ghost use Rattle.run_ends.specs.Stops.{faults_written};
@@ -17,7 +17,7 @@ use column_stage::PlainStage;
 use command_line::is_deck_name;
 use group_analysis::Analyst;
 use line_words::MOST_FILE_BYTES;
-use port_edge::{Files, PortFault};
+use ports::{Files, PortFault};
 use run_ends::{End, Status, Stop};
 use sim_read::NetRefusal;
 use spice_cards::DeckWhat;

@@ -1,7 +1,7 @@
 //! The top call.
 
 ghost use Rattle.std.specs.Prelude.{◌≡◌, ◌≢◌, ◌+◌, ℕ, List, [], ◌∷◌, IfSome, IfOk, IfErr};
-ghost use Rattle.port_edge.specs.Taken.{TakesFiles};
+ghost use Rattle.ports.specs.Taken.{TakesFiles};
 ghost use Rattle.netlist.specs.Circuits.{IsCircuit, HasVisibleNames};
 ghost use Rattle.command_line.specs.Requests.{alone_seen, names_of, question_seen};
 ghost use Rattle.command_line.specs.Requests as spec;
@@ -18,7 +18,7 @@ ghost use Rattle.cosmos_app.specs.Starts.{QuestionStarts, RequestStarts, ScriptS
 ghost use Rattle.circuit_files.specs.Starts.{StartsAtMost};
 ghost use Rattle.run_ends.specs.Ends.{IsToldBy, IsUntouched, status_after};
 
-use crate::batch::run_columns;
+use crate::columns::run_columns;
 use crate::faults::judge_list;
 use crate::reports::report_on;
 use circuit_files::{read_circuit, read_deck_file, read_file};
@@ -29,7 +29,7 @@ use cosmos_session::Session;
 use group_analysis::Analyst;
 use line_words::MOST_FILE_BYTES;
 use netlist::Circuit;
-use port_edge::{Files, Sink};
+use ports::{Files, Sink};
 use run_ends::{End, Status, Stop};
 use script_reports::{cover_script, explain, sum_up};
 use script_run::run_lines;
@@ -327,7 +327,7 @@ fn run_text<M: PlainStage, S: Sink + Drop, A: Analyst>(
 {
     match purpose {
         Purpose::Lines => simulate::<M, _, _>(alloc, circuit, text, out, analyst),
-        Purpose::Columns(lanes) => run_columns(alloc, circuit, lanes, text, out, analyst),
+        Purpose::Columns(columns) => run_columns(alloc, circuit, columns, text, out, analyst),
         Purpose::Reasons(node) => explain::<M, _, _>(alloc, circuit, text, node, out, analyst),
         Purpose::Cover => cover_script::<M, _, _>(alloc, circuit, text, out, analyst),
     }

@@ -1,10 +1,10 @@
 -- Letters are refused as the command of the first column is.
 use Rattle.std.proofs.Common.{◌≡◌, ℕ, List, map, refl}
 use Rattle.ternary.specs.declared.tern.Tern.{Tern}
-use Rattle.lane_script.specs.declared.command.LaneCommand.TheVariants.{Values}
-use Rattle.lane_script.specs.declared.command.ValueCommand.{ValueCommand}
-use Rattle.lane_script.specs.declared.command.ValueCommand.TheVariants as value
-use Rattle.lane_script.specs.Commands.{alone_of, in_column, value_in}
+use Rattle.column_script.specs.declared.command.ColumnCommand.TheVariants.{Values}
+use Rattle.column_script.specs.declared.command.ValueCommand.{ValueCommand}
+use Rattle.column_script.specs.declared.command.ValueCommand.TheVariants as value
+use Rattle.column_script.specs.Commands.{alone_of, in_column, value_in}
 use Rattle.session_meaning.specs.Sessions.{SessionData}
 use Rattle.session_meaning.specs.Refusals.{refusal_of, values_refusal}
 use Rattle.cosmos_session.specs.Targets.{target_at, target_of}

@@ -1,8 +1,8 @@
 -- The nodes to which a command gave states list those at which the state behind it differs from the one before it.
 use Rattle.std.proofs.Common.{◌≡◌, ℕ, ◌<◌, List, All, length, map, sym, subst}
 use Rattle.ternary.specs.declared.tern.Tern.{Tern}
-use Rattle.path_meaning.specs.Graphs.{nodes}
-use Rattle.oscillation_x.specs.Moved.{ListsChanges}
+use Rattle.switch_paths.specs.Graphs.{nodes}
+use Rattle.settling.specs.Moved.{ListsChanges}
 use Rattle.script_lang.specs.declared.command.Command.TheVariants as family
 use Rattle.script_lang.specs.declared.command.Give.{Give}
 use Rattle.script_lang.specs.declared.command.Give.TheVariants.{Set, Charge, Back}

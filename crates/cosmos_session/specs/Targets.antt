@@ -1,8 +1,8 @@
 -- Which nodes may be given states.
 use Rattle.std.specs.Prelude.{ℕ, Option}
 use Rattle.netlist.specs.Circuits.{CircuitData}
-use Rattle.lane_script.specs.declared.command.ValueCommand.{ValueCommand}
-use Rattle.lane_script.specs.declared.command.ValueCommand.TheVariants as value
+use Rattle.column_script.specs.declared.command.ValueCommand.{ValueCommand}
+use Rattle.column_script.specs.declared.command.ValueCommand.TheVariants as value
 use Rattle.session_meaning.specs.declared.fault.Refusal.{Refusal}
 use Rattle.session_meaning.specs.Refusals.{charge_at, set_at}
 use Rattle.cosmos_session.specs.declared.values.Target.{Target}

@@ -1,11 +1,11 @@
 //! How the graph of a session's circuit was before an edit.
 
 ghost use Rattle.std.specs.Prelude.{◌≡◌, ◌+◌, ◌-◌, ◌≤◌};
-ghost use Rattle.path_meaning.specs.Graphs.{nodes};
+ghost use Rattle.switch_paths.specs.Graphs.{nodes};
 ghost use Rattle.session_meaning.specs.Stages.{before_place, before_level};
 
 use channel_groups::Change;
-use path_meaning::Graph;
+use switch_paths::Graph;
 
 /// How the graph is before what stands at a place is changed; past the last place nothing stands.
 pub(crate) fn change_at(graph: &Graph, place: usize) -> Change

@@ -1,15 +1,15 @@
 //! Commands for columns: what is done in each column, by the letters that it is given, and the commands that take no step.
 
 ghost use Rattle.std.specs.Prelude.{◌≡◌, ◌<◌, ◌≤◌, ℕ, List, [], is_some, true, map, None, All, IfErr, IfOk, OnOk};
-ghost use Rattle.path_meaning.specs.Graphs.{nodes};
-ghost use Rattle.path_meaning.specs.declared.TheConstants.{RAILS};
+ghost use Rattle.switch_paths.specs.Graphs.{nodes};
+ghost use Rattle.switch_paths.specs.declared.TheConstants.{RAILS};
 ghost use Rattle.netlist.specs.Words.{node_of, node_named};
 ghost use Rattle.group_text.specs.Texts.{GroupTextData};
 ghost use Rattle.script_lang.specs.Forms as form;
 ghost use Rattle.script_lang.specs.declared.command.Command.TheVariants as family;
-ghost use Rattle.lane_script.specs.declared.command.LaneCommand.TheVariants.{Shared, Values};
-ghost use Rattle.lane_script.specs.Commands.{IsShared, IsSharedSetup, alone_of, in_column, value_in};
-ghost use Rattle.lane_script.specs.Forms.{IsFormed};
+ghost use Rattle.column_script.specs.declared.command.ColumnCommand.TheVariants.{Shared, Values};
+ghost use Rattle.column_script.specs.Commands.{IsShared, IsSharedSetup, alone_of, in_column, value_in};
+ghost use Rattle.column_script.specs.Forms.{IsFormed};
 ghost use Rattle.column_stage.specs.Acts.{Leads, Placed};
 ghost use Rattle.column_stage.specs.Columns.{AreSound, IsLetters};
 ghost use Rattle.session_meaning.specs.Columns.{ObeysInAll, QuietlyInAll, acts_of_letters, column_of};
@@ -22,26 +22,26 @@ ghost use Rattle.cosmos_session.specs.Targets.{target_of};
 use crate::session::Session;
 use crate::values::Target;
 use analysis_cache::{Analyst, Kept};
+use column_script::{ColumnCommand, ValueCommand};
 use column_stage::{ColumnStage, Stage};
-use lane_script::{LaneCommand, ValueCommand};
 use netlist::{Circuit, RAILS};
 use node_words::Vectors;
-use path_meaning::Graph;
 use script_lang::{ClockList, Command, Edit, Name, Setup, StateList, Value, ValueList};
 use session_meaning::{ApplyFault, FIRST_LIMIT};
 use std::alloc::Global;
+use switch_paths::Graph;
 use ternary::{NoMemory, Tern};
 use told_lines::Lines;
 
 impl<M: ColumnStage> Session<M> {
     /// A session at its start over a stage whose columns are at theirs: in each Gnd is 0, Vdd is 1 and every other node X.
     pub fn over(alloc: Global, circuit: Circuit, stage: M) -> Session<M>
-        requires some { 1 ≤ M.lanes stage }
-        requires start { (lane : ℕ) → lane < M.lanes stage → M.states stage lane ≡ (start_of circuit).state }
+        requires some { 1 ≤ M.columns stage }
+        requires start { (column : ℕ) → column < M.columns stage → M.states stage column ≡ (start_of circuit).state }
         requires last { M.last stage ≡ [] }
         requires serves { (kept : List GroupTextData) → M.serves stage circuit.graph kept }
         ensures stage { result.stage ≡ stage }
-        ensures start { (lane : ℕ) → lane < M.lanes stage → column_of M.states result lane ≡ start_of circuit }
+        ensures start { (column : ℕ) → column < M.columns stage → column_of M.states result column ≡ start_of circuit }
     {
         let kept = Kept::with_keys(alloc, circuit.keys());
         // For the proof alone: a circuit's graph is well formed.
@@ -65,11 +65,11 @@ impl<M: ColumnStage> Session<M> {
     }
 
     /// How many columns there are.
-    pub fn lanes(&self) -> u32
-        ensures value { result ≡ M.lanes self.now.stage }
+    pub fn columns(&self) -> u32
+        ensures value { result ≡ M.columns self.now.stage }
         ensures some { 1 ≤ result }
     {
-        self.stage.lanes()
+        self.stage.columns()
     }
 
     /// Does a command in each column, and tells the columns' lines.
@@ -85,18 +85,18 @@ impl<M: ColumnStage> Session<M> {
     /// nothing but what is kept: all memory is taken before the first unit step, a build last of all.
     pub fn apply_columns<A: Analyst, L: Lines>(
         &mut self,
-        command: &LaneCommand,
+        command: &ColumnCommand,
         analyst: &mut A,
         out: &mut L,
     ) -> Result<(), ApplyFault>
-        requires { IsFormed (M.lanes self.old.stage) command.now }
-        ensures obeys { ObeysInAll M.cuts L.hear L.part (M.lanes self.old.stage) (column_of M.states self.old) command.now (column_of M.states self.new)
+        requires { IsFormed (M.columns self.old.stage) command.now }
+        ensures obeys { ObeysInAll M.cuts L.hear L.part (M.columns self.old.stage) (column_of M.states self.old) command.now (column_of M.states self.new)
             (L.heard out.old) (L.heard out.new) (A.analysed analyst.old) (A.analysed analyst.new) (L.refusals out.old) (L.refusals out.new) result }
         ensures faults { L.faults out.new ≡ faults_applied (L.faults out.old) result }
-        ensures lanes { M.lanes self.new.stage ≡ M.lanes self.old.stage }
+        ensures columns { M.columns self.new.stage ≡ M.columns self.old.stage }
         ensures named { IfErr result (NamesNode self.new.core.circuit.graph) }
-        ensures before { IsHeldSession M.lanes M.states M.serves self.old }
-        ensures session { IsHeldSession M.lanes M.states M.serves self.new }
+        ensures before { IsHeldSession M.columns M.states M.serves self.old }
+        ensures session { IsHeldSession M.columns M.states M.serves self.new }
     {
         self.is_well_formed();
         let outcome = self.obey_columns(command, analyst, out);
@@ -107,20 +107,20 @@ impl<M: ColumnStage> Session<M> {
     // Does a command in each column, and tells the columns' lines.
     fn obey_columns<A: Analyst, L: Lines>(
         &mut self,
-        command: &LaneCommand,
+        command: &ColumnCommand,
         analyst: &mut A,
         out: &mut L,
     ) -> Result<(), ApplyFault>
-        requires formed { IsFormed (M.lanes self.old.stage) command.now }
-        requires session { IsHeldSession M.lanes M.states M.serves self.old }
-        ensures obeys { ObeysInAll M.cuts L.hear L.part (M.lanes self.old.stage) (column_of M.states self.old) command.now (column_of M.states self.new)
+        requires formed { IsFormed (M.columns self.old.stage) command.now }
+        requires session { IsHeldSession M.columns M.states M.serves self.old }
+        ensures obeys { ObeysInAll M.cuts L.hear L.part (M.columns self.old.stage) (column_of M.states self.old) command.now (column_of M.states self.new)
             (L.heard out.old) (L.heard out.new) (A.analysed analyst.old) (A.analysed analyst.new) (L.refusals out.old) (L.refusals out.new) result }
         ensures faults { L.faults out.new ≡ faults_applied (L.faults out.old) result }
-        ensures lanes { M.lanes self.new.stage ≡ M.lanes self.old.stage }
+        ensures columns { M.columns self.new.stage ≡ M.columns self.old.stage }
     {
         match command {
-            LaneCommand::Values(kind, list) => self.give_letters(*kind, list),
-            LaneCommand::Shared(shared) => self.obey_shared(shared, analyst, out),
+            ColumnCommand::Values(kind, list) => self.give_letters(*kind, list),
+            ColumnCommand::Shared(shared) => self.obey_shared(shared, analyst, out),
         }
     }
 
@@ -132,11 +132,11 @@ impl<M: ColumnStage> Session<M> {
         out: &mut L,
     ) -> Result<(), ApplyFault>
         requires formed { form.IsFormed command.now × IsShared command.now }
-        requires session { IsHeldSession M.lanes M.states M.serves self.old }
-        ensures obeys { ObeysInAll M.cuts L.hear L.part (M.lanes self.old.stage) (column_of M.states self.old) (Shared command.now) (column_of M.states self.new)
+        requires session { IsHeldSession M.columns M.states M.serves self.old }
+        ensures obeys { ObeysInAll M.cuts L.hear L.part (M.columns self.old.stage) (column_of M.states self.old) (Shared command.now) (column_of M.states self.new)
             (L.heard out.old) (L.heard out.new) (A.analysed analyst.old) (A.analysed analyst.new) (L.refusals out.old) (L.refusals out.new) result }
         ensures faults { L.faults out.new ≡ faults_applied (L.faults out.old) result }
-        ensures lanes { M.lanes self.new.stage ≡ M.lanes self.old.stage }
+        ensures columns { M.columns self.new.stage ≡ M.columns self.old.stage }
     {
         match command {
             Command::Edit(edit) => self.edit_columns(edit),
@@ -148,8 +148,8 @@ impl<M: ColumnStage> Session<M> {
 
     // An edit of the circuit. Each node that is new is X in each column.
     fn edit_columns(&mut self, edit: &Edit) -> Result<(), ApplyFault>
-        ensures quiet { QuietlyInAll (M.lanes self.old.stage) (column_of M.states self.old) (Shared (family.Edit edit.now)) (column_of M.states self.new) result }
-        ensures lanes { M.lanes self.new.stage ≡ M.lanes self.old.stage }
+        ensures quiet { QuietlyInAll (M.columns self.old.stage) (column_of M.states self.old) (Shared (family.Edit edit.now)) (column_of M.states self.new) result }
+        ensures columns { M.columns self.new.stage ≡ M.columns self.old.stage }
     {
         let done = self.edit(edit);
         self.is_well_formed();
@@ -159,17 +159,17 @@ impl<M: ColumnStage> Session<M> {
     // Sets what later commands go by, which is the same in each column.
     fn set_up_columns(&mut self, setup: &Setup) -> Result<(), ApplyFault>
         requires { form.IsFormedSetup setup.now × IsSharedSetup setup.now }
-        ensures quiet { QuietlyInAll (M.lanes self.old.stage) (column_of M.states self.old) (Shared (family.Setup setup.now)) (column_of M.states self.new) result }
-        ensures lanes { M.lanes self.new.stage ≡ M.lanes self.old.stage }
+        ensures quiet { QuietlyInAll (M.columns self.old.stage) (column_of M.states self.old) (Shared (family.Setup setup.now)) (column_of M.states self.new) result }
+        ensures columns { M.columns self.new.stage ≡ M.columns self.old.stage }
     {
         self.set_up_alike(setup)
     }
 
     // `set` and `charge`: gives the named nodes their letters in each column, from left to right.
     fn give_letters(&mut self, kind: ValueCommand, list: &ClockList) -> Result<(), ApplyFault>
-        requires formed { IsFormed (M.lanes self.old.stage) (Values kind list.now) }
-        ensures quiet { QuietlyInAll (M.lanes self.old.stage) (column_of M.states self.old) (Values kind list.now) (column_of M.states self.new) result }
-        ensures lanes { M.lanes self.new.stage ≡ M.lanes self.old.stage }
+        requires formed { IsFormed (M.columns self.old.stage) (Values kind list.now) }
+        ensures quiet { QuietlyInAll (M.columns self.old.stage) (column_of M.states self.old) (Values kind list.now) (column_of M.states self.new) result }
+        ensures columns { M.columns self.new.stage ≡ M.columns self.old.stage }
     {
         self.allow_letters(kind, list)?;
         self.put_letters(list.items());
@@ -190,12 +190,12 @@ impl<M: ColumnStage> Session<M> {
 
     // Gives these named nodes, which are in use and no rails, their letters, from left to right.
     fn put_letters(&mut self, list: &[(Name, StateList)])
-        requires fit { All (λ item. IsLetters (M.lanes self.old.stage) item.1) list.now }
+        requires fit { All (λ item. IsLetters (M.columns self.old.stage) item.1) list.now }
         requires known { All (λ item. is_some (node_of self.old.core.circuit.names item.0) ≡ true) list.now }
         requires past { All (λ item. RAILS ≤ node_named self.old.core.circuit item.0) list.now }
         ensures core { self.new.core ≡ record self.old.core { state = self.new.core.state } }
         ensures stage { Leads M.did self.old.stage (acts_of_letters self.old.core.circuit list.now) self.new.stage }
-        ensures lanes { M.lanes self.new.stage ≡ M.lanes self.old.stage }
+        ensures columns { M.columns self.new.stage ≡ M.columns self.old.stage }
     {
         place_letters(&self.circuit, list, &mut self.stage);
     }
@@ -225,12 +225,12 @@ fn target_of(kind: ValueCommand) -> Target
 
 // Gives these named nodes, which are in use and no rails, their letters, from left to right.
 fn place_letters<M: Stage>(circuit: &Circuit, list: &[(Name, StateList)], stage: &mut M)
-    requires sound { AreSound circuit.now.graph (M.lanes stage.old) (M.states stage.old) }
-    requires fit { All (λ item. IsLetters (M.lanes stage.old) item.1) list.now }
+    requires sound { AreSound circuit.now.graph (M.columns stage.old) (M.states stage.old) }
+    requires fit { All (λ item. IsLetters (M.columns stage.old) item.1) list.now }
     requires known { All (λ item. is_some (node_of circuit.now.names item.0) ≡ true) list.now }
     requires past { All (λ item. RAILS ≤ node_named circuit.now item.0) list.now }
-    ensures lanes { M.lanes stage.new ≡ M.lanes stage.old }
-    ensures sound { AreSound circuit.now.graph (M.lanes stage.new) (M.states stage.new) }
+    ensures columns { M.columns stage.new ≡ M.columns stage.old }
+    ensures sound { AreSound circuit.now.graph (M.columns stage.new) (M.states stage.new) }
     ensures last { M.last stage.new ≡ M.last stage.old }
     ensures serves { (kept : List GroupTextData) → M.serves stage.old circuit.now.graph kept → M.serves stage.new circuit.now.graph kept }
     ensures did { Leads M.did stage.old (acts_of_letters circuit.now list.now) stage.new }
@@ -243,12 +243,12 @@ fn place_letters<M: Stage>(circuit: &Circuit, list: &[(Name, StateList)], stage:
 
 // Gives a node that is no rail its letters.
 fn place_node<M: Stage>(graph: &Graph, node: usize, letters: &[Tern], stage: &mut M)
-    requires sound { AreSound graph.now (M.lanes stage.old) (M.states stage.old) }
+    requires sound { AreSound graph.now (M.columns stage.old) (M.states stage.old) }
     requires inside { node < nodes graph.now }
     requires no_rail { RAILS ≤ node }
-    requires letters { IsLetters (M.lanes stage.old) letters.now }
-    ensures lanes { M.lanes stage.new ≡ M.lanes stage.old }
-    ensures sound { AreSound graph.now (M.lanes stage.new) (M.states stage.new) }
+    requires letters { IsLetters (M.columns stage.old) letters.now }
+    ensures columns { M.columns stage.new ≡ M.columns stage.old }
+    ensures sound { AreSound graph.now (M.columns stage.new) (M.states stage.new) }
     ensures last { M.last stage.new ≡ M.last stage.old }
     ensures serves { (kept : List GroupTextData) → M.serves stage.old graph.now kept → M.serves stage.new graph.now kept }
     ensures did { M.did (Placed graph.now node letters.now) stage.old stage.new }

@@ -1,8 +1,8 @@
 //! Edits of the circuit.
 
 ghost use Rattle.std.specs.Prelude.{◌≡◌, ◌<◌, ◌≤◌, All, OnOk, OnErr};
-ghost use Rattle.path_meaning.specs.Graphs.{nodes};
-ghost use Rattle.path_meaning.specs.declared.TheConstants.{RAILS};
+ghost use Rattle.switch_paths.specs.Graphs.{nodes};
+ghost use Rattle.switch_paths.specs.declared.TheConstants.{RAILS};
 ghost use Rattle.netlist.specs.Edits.{answer_of, with_input, with_place};
 ghost use Rattle.script_lang.specs.declared.command.Command.TheVariants as family;
 ghost use Rattle.script_lang.specs.declared.command.Edit.TheVariants as asked;
@@ -19,9 +19,9 @@ use crate::refusals;
 use crate::session::Session;
 use column_stage::Stage;
 use netlist::{Circuit, EditFault, RAILS, usual_strength};
-use path_meaning::SwitchKind;
 use script_lang::{Edit, Name, NameList};
 use session_meaning::{ApplyFault, Refusal, SwitchEdit};
+use switch_paths::SwitchKind;
 
 impl<M: Stage> Session<M> {
     /// Does an edit.

@@ -1,8 +1,8 @@
 //! The commands that give nodes states.
 
 ghost use Rattle.std.specs.Prelude.{◌≡◌, ◌<◌, ◌≤◌, None, List, All, IfErr, IfOk, OnOk, OnErr};
-ghost use Rattle.path_meaning.specs.Graphs.{nodes};
-ghost use Rattle.path_meaning.specs.declared.TheConstants.{RAILS};
+ghost use Rattle.switch_paths.specs.Graphs.{nodes};
+ghost use Rattle.switch_paths.specs.declared.TheConstants.{RAILS};
 ghost use Rattle.script_lang.specs.declared.command.Command.TheVariants as family;
 ghost use Rattle.script_lang.specs.declared.command.Give.TheVariants as asked;
 ghost use Rattle.session_meaning.specs.Effects as effect;
@@ -96,11 +96,11 @@ impl<M: Stage> Session<M> {
 
 // Gives these nodes, none of which is a rail, their states, from left to right.
 fn assign<M: PlainStage>(circuit: &Circuit, states: &[(usize, Tern)], stage: &mut M)
-    requires one { M.lanes stage.old ≡ 1 }
+    requires one { M.columns stage.old ≡ 1 }
     requires sound { IsSoundState circuit.now.graph (M.states stage.old 0) }
     requires within { All (λ pair. pair.0 < nodes circuit.now.graph) states.now }
     requires past { All (λ pair. RAILS ≤ pair.0) states.now }
-    ensures one { M.lanes stage.new ≡ 1 }
+    ensures one { M.columns stage.new ≡ 1 }
     ensures state { M.states stage.new 0 ≡ effect.assigned (M.states stage.old 0) states.now }
     ensures last { M.last stage.new ≡ M.last stage.old }
     ensures serves { (kept : List GroupTextData) → M.serves stage.old circuit.now.graph kept → M.serves stage.new circuit.now.graph kept }

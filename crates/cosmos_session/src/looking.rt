@@ -2,7 +2,7 @@
 
 ghost use Rattle.std.specs.Prelude.{◌≡◌, ◌<◌, List, is_some, true, length, flat_map, All, IfErr};
 ghost use Rattle.group_text.specs.Texts.{GroupTextData};
-ghost use Rattle.path_meaning.specs.Graphs.{nodes};
+ghost use Rattle.switch_paths.specs.Graphs.{nodes};
 ghost use Rattle.netlist.specs.Words.{node_of, node_named};
 ghost use Rattle.told_lines.specs.Lines.{AreInRoom};
 ghost use Rattle.node_looks.specs.Looks.{looked_lines, node_lines};

@@ -1,9 +1,9 @@
 //! What is done to a stage: a node is given a state, room is taken, the graph is edited, and it is built.
 
 ghost use Rattle.std.specs.Prelude.{◌≡◌, ℕ, ◌+◌, ◌<◌, ◌≤◌, ◌⊎◌, [], ◌∷◌, List, Err, slice_set, IfErr, IfOk, OnErr, OnOk};
-ghost use Rattle.path_meaning.specs.Graphs.{GraphData, nodes};
-ghost use Rattle.path_meaning.specs.declared.TheConstants.{RAILS};
-ghost use Rattle.path_meaning.specs.Rails.{IsRailed};
+ghost use Rattle.switch_paths.specs.Graphs.{GraphData, nodes};
+ghost use Rattle.switch_paths.specs.declared.TheConstants.{RAILS};
+ghost use Rattle.switch_paths.specs.Rails.{IsRailed};
 ghost use Rattle.circuit_texts.specs.Building.{Builds};
 ghost use Rattle.circuit_texts.specs.Sizes.{TellsRefused};
 ghost use Rattle.column_stage.specs.Acts.{Built, LeadsBy, Placed, Reserved};
@@ -19,17 +19,17 @@ use analysis_cache::{Analyst, Kept};
 use channel_groups::Change;
 use circuit_texts::BuildFault;
 use column_stage::{PlainStage, Stage};
-use path_meaning::Graph;
 use std::alloc::Global;
+use switch_paths::Graph;
 use ternary::{NoMemory, Tern};
 
 /// Gives a node that is no rail this state.
 pub(crate) fn put_node<M: PlainStage>(graph: &Graph, node: usize, value: Tern, stage: &mut M)
-    requires one { M.lanes stage.old ≡ 1 }
+    requires one { M.columns stage.old ≡ 1 }
     requires sound { IsSoundState graph.now (M.states stage.old 0) }
     requires inside { node < nodes graph.now }
     requires no_rail { RAILS ≤ node }
-    ensures one { M.lanes stage.new ≡ 1 }
+    ensures one { M.columns stage.new ≡ 1 }
     ensures state { M.states stage.new 0 ≡ slice_set (M.states stage.old 0) node value }
     ensures sound { IsSoundState graph.now (M.states stage.new 0) }
     ensures last { M.last stage.new ≡ M.last stage.old }
@@ -42,13 +42,13 @@ pub(crate) fn put_node<M: PlainStage>(graph: &Graph, node: usize, value: Tern, s
 
 /// Gives a node that is no rail this state, in each column.
 pub(crate) fn put_in_all<M: Stage>(graph: &Graph, node: usize, letter: Tern, stage: &mut M)
-    requires some { 1 ≤ M.lanes stage.old }
-    requires sound { AreSound graph.now (M.lanes stage.old) (M.states stage.old) }
+    requires some { 1 ≤ M.columns stage.old }
+    requires sound { AreSound graph.now (M.columns stage.old) (M.states stage.old) }
     requires inside { node < nodes graph.now }
     requires no_rail { RAILS ≤ node }
-    ensures lanes { M.lanes stage.new ≡ M.lanes stage.old }
+    ensures columns { M.columns stage.new ≡ M.columns stage.old }
     ensures state { M.states stage.new 0 ≡ slice_set (M.states stage.old 0) node letter }
-    ensures sound { AreSound graph.now (M.lanes stage.new) (M.states stage.new) }
+    ensures sound { AreSound graph.now (M.columns stage.new) (M.states stage.new) }
     ensures last { M.last stage.new ≡ M.last stage.old }
     ensures serves { (kept : List GroupTextData) → M.serves stage.old graph.now kept → M.serves stage.new graph.now kept }
     ensures fits { M.fits stage.old graph.now → M.fits stage.new graph.now }
@@ -59,11 +59,11 @@ pub(crate) fn put_in_all<M: Stage>(graph: &Graph, node: usize, letter: Tern, sta
 
 /// Takes room for the states of as many new nodes as one edit makes at most.
 pub(crate) fn take_room<M: Stage>(stage: &mut M) -> Result<(), NoMemory>
-    requires { 1 ≤ M.lanes stage.old }
+    requires { 1 ≤ M.columns stage.old }
     ensures room { OnOk result (NEW_NODES ≤ M.spare stage.new) }
-    ensures lanes { M.lanes stage.new ≡ M.lanes stage.old }
+    ensures columns { M.columns stage.new ≡ M.columns stage.old }
     ensures state { M.states stage.new 0 ≡ M.states stage.old 0 }
-    ensures states { (lane : ℕ) → lane < M.lanes stage.old → M.states stage.new lane ≡ M.states stage.old lane }
+    ensures states { (column : ℕ) → column < M.columns stage.old → M.states stage.new column ≡ M.states stage.old column }
     ensures last { M.last stage.new ≡ M.last stage.old }
     ensures serves { (g : GraphData) (kept : List GroupTextData) → M.serves stage.old g kept → M.serves stage.new g kept }
     ensures did { M.did Reserved stage.old stage.new }
@@ -79,13 +79,14 @@ pub(crate) fn edit_stage<M: Stage>(
     stage: &mut M,
     kept: &mut Kept,
 )
-    requires some { 1 ≤ M.lanes stage.old }
-    requires before { (before : GraphData) × IsUndone before graph.now change.now × AreSound before (M.lanes stage.old) (M.states stage.old)
+    requires some { 1 ≤ M.columns stage.old }
+    requires before { (before : GraphData) × IsUndone before graph.now change.now × AreSound before (M.columns stage.old) (M.states stage.old)
         × (nodes graph.now ≤ nodes before + M.spare stage.old) × M.serves stage.old before (used_texts (M.last stage.old) (texts_of kept.old)) }
     requires last { AreAmong (M.last stage.old) (texts_of kept.old) }
-    ensures lanes { M.lanes stage.new ≡ M.lanes stage.old }
+    ensures columns { M.columns stage.new ≡ M.columns stage.old }
     ensures state { M.states stage.new 0 ≡ with_new_nodes (M.states stage.old 0) (nodes graph.now) }
-    ensures states { (lane : ℕ) → lane < M.lanes stage.old → M.states stage.new lane ≡ with_new_nodes (M.states stage.old lane) (nodes graph.now) }
+    ensures states { (column : ℕ) → column < M.columns stage.old
+        → M.states stage.new column ≡ with_new_nodes (M.states stage.old column) (nodes graph.now) }
     ensures kept { used_texts (M.last stage.new) (texts_of kept.new) ≡ used_texts (M.last stage.old) (texts_of kept.old) }
     ensures last { AreAmong (M.last stage.new) (texts_of kept.new) }
     ensures bound { kept.new.bound ≡ kept.old.bound }
@@ -105,15 +106,15 @@ pub(crate) fn build_stage<M: Stage, A: Analyst>(
     analyst: &mut A,
 ) -> Result<u64, BuildFault>
     requires railed { IsRailed graph.now }
-    requires some { 1 ≤ M.lanes stage.old }
-    requires sound { AreSound graph.now (M.lanes stage.old) (M.states stage.old) }
+    requires some { 1 ≤ M.columns stage.old }
+    requires sound { AreSound graph.now (M.columns stage.old) (M.states stage.old) }
     requires serves { M.serves stage.old graph.now (used_texts (M.last stage.old) (texts_of kept.old)) }
     requires last { AreAmong (M.last stage.old) (texts_of kept.old) }
     ensures fits { OnOk result (M.fits stage.new graph.now) }
     ensures serves { M.serves stage.new graph.now (used_texts (M.last stage.new) (texts_of kept.new)) }
-    ensures lanes { M.lanes stage.new ≡ M.lanes stage.old }
+    ensures columns { M.columns stage.new ≡ M.columns stage.old }
     ensures state { M.states stage.new 0 ≡ M.states stage.old 0 }
-    ensures states { (lane : ℕ) → lane < M.lanes stage.old → M.states stage.new lane ≡ M.states stage.old lane }
+    ensures states { (column : ℕ) → column < M.columns stage.old → M.states stage.new column ≡ M.states stage.old column }
     ensures builds { IfOk result (Builds large graph.now kept.old.bound (used_texts (M.last stage.old) (texts_of kept.old)) (used_texts (M.last stage.new) (texts_of kept.new))
         (A.analysed analyst.old) (A.analysed analyst.new)) }
     ensures last { AreAmong (M.last stage.new) (texts_of kept.new) }

@@ -3,8 +3,8 @@
 ghost use Rattle.std.specs.Prelude.{◌≡◌, map};
 ghost use Rattle.session_meaning.specs.Passing.{KnowsButClocks};
 
-use oscillation_x::{Moved, Onlooker};
 use session_meaning::Clock;
+use settling::{Moved, Onlooker};
 use ternary::Tern;
 
 // The state of each node, and the clocks whose nodes were placed.

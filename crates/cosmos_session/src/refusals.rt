@@ -1,7 +1,7 @@
 //! When a command is refused.
 
 ghost use Rattle.std.specs.Prelude.{◌≡◌, ◌<◌, ◌==◌, length, All, if◌then◌else◌};
-ghost use Rattle.path_meaning.specs.Graphs.{nodes};
+ghost use Rattle.switch_paths.specs.Graphs.{nodes};
 ghost use Rattle.netlist.specs.Names.{node_of};
 ghost use Rattle.node_words.specs.Words.{named};
 ghost use Rattle.session_meaning.specs.Refusals as spec;

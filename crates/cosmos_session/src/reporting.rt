@@ -3,7 +3,7 @@
 ghost use Rattle.std.specs.Prelude.{◌≡◌, ◌≤◌, ◌+◌, List, IfErr};
 ghost use Rattle.group_text.specs.Texts.{GroupTextData};
 ghost use Rattle.circuit_texts.specs.Building.{HasTexts};
-ghost use Rattle.wave_print.specs.declared.lines.TheConstants.{COLUMN_ROOM, REPORT_LINE_ROOM};
+ghost use Rattle.printed_lines.specs.declared.lines.TheConstants.{COLUMN_ROOM, REPORT_LINE_ROOM};
 ghost use Rattle.script_lang.specs.declared.command.Command.TheVariants as family;
 ghost use Rattle.script_lang.specs.declared.command.Run.TheVariants as asked;
 ghost use Rattle.session_meaning.specs.Effects.{IsReported};
@@ -15,9 +15,9 @@ use crate::session::Session;
 use crate::waves::tell_line;
 use analysis_cache::Analyst;
 use column_stage::PlainStage;
+use printed_lines::{COLUMN_ROOM, REPORT_LINE_ROOM};
 use session_meaning::ApplyFault;
 use told_lines::{Line, Lines};
-use wave_print::{COLUMN_ROOM, REPORT_LINE_ROOM};
 
 impl<M: PlainStage> Session<M> {
     /// `report`: a line with the numbers of groups, of distinct texts, and of texts that were analysed

@@ -1,10 +1,10 @@
 //! States that are kept under names, and given back.
 
 ghost use Rattle.std.specs.Prelude.{◌≡◌, ◌<◌, ◌≤◌, List, length, position, slice_set, option_map, OnOk, OnErr};
-ghost use Rattle.path_meaning.specs.Graphs.{nodes};
-ghost use Rattle.path_meaning.specs.Rails.{IsSound};
-ghost use Rattle.path_meaning.specs.Switching.{state_at};
-ghost use Rattle.path_meaning.specs.declared.TheConstants.{RAILS};
+ghost use Rattle.switch_paths.specs.Graphs.{nodes};
+ghost use Rattle.switch_paths.specs.Rails.{IsSound};
+ghost use Rattle.switch_paths.specs.Switching.{state_at};
+ghost use Rattle.switch_paths.specs.declared.TheConstants.{RAILS};
 ghost use Rattle.script_lang.specs.declared.command.Command.TheVariants as family;
 ghost use Rattle.script_lang.specs.declared.command.Give.TheVariants as given;
 ghost use Rattle.script_lang.specs.declared.command.Setup.TheVariants as asked;
@@ -20,10 +20,10 @@ use crate::placing::put_node;
 use crate::session::Session;
 use column_stage::PlainStage;
 use netlist::RAILS;
-use path_meaning::Graph;
 use script_lang::{Name, StateList};
 use session_meaning::{ApplyFault, MOST_SAVES, Refusal};
 use std::alloc::AllocError;
+use switch_paths::Graph;
 use ternary::{NoMemory, Tern};
 
 impl<M: PlainStage> Session<M> {
@@ -110,12 +110,12 @@ fn put_save(
 
 // Gives the nodes past the rails the states that were kept, each that differs.
 fn give_back<M: PlainStage>(graph: &Graph, kept: &[Tern], stage: &mut M)
-    requires one { M.lanes stage.old ≡ 1 }
+    requires one { M.columns stage.old ≡ 1 }
     requires sound { IsSoundState graph.now (M.states stage.old 0) }
     requires few { length kept.now ≤ nodes graph.now }
     requires railed { RAILS ≤ length kept.now }
     requires kept { IsSound kept.now }
-    ensures one { M.lanes stage.new ≡ 1 }
+    ensures one { M.columns stage.new ≡ 1 }
     ensures state { M.states stage.new 0 ≡ spec.back_to kept.now (M.states stage.old 0) }
     ensures last { M.last stage.new ≡ M.last stage.old }
     ensures serves { (texts : List GroupTextData) → M.serves stage.old graph.now texts → M.serves stage.new graph.now texts }
@@ -128,11 +128,11 @@ fn give_back<M: PlainStage>(graph: &Graph, kept: &[Tern], stage: &mut M)
 
 // Gives a node past the rails this state, if it has another.
 fn give_one<M: PlainStage>(graph: &Graph, node: usize, value: Tern, stage: &mut M)
-    requires one { M.lanes stage.old ≡ 1 }
+    requires one { M.columns stage.old ≡ 1 }
     requires sound { IsSoundState graph.now (M.states stage.old 0) }
     requires inside { node < nodes graph.now }
     requires no_rail { RAILS ≤ node }
-    ensures one { M.lanes stage.new ≡ 1 }
+    ensures one { M.columns stage.new ≡ 1 }
     ensures state { M.states stage.new 0 ≡ slice_set (M.states stage.old 0) node value }
     ensures sound { IsSoundState graph.now (M.states stage.new 0) }
     ensures last { M.last stage.new ≡ M.last stage.old }

@@ -14,9 +14,9 @@ use analysis_cache::{Analyst, Kept};
 use column_stage::{PlainStage, Stage};
 use netlist::Circuit;
 use node_words::Vectors;
-use oscillation_x::{Blind, Onlooker};
 use script_lang::{Command, Name, StateList};
 use session_meaning::{ApplyFault, Clock, FIRST_LIMIT};
+use settling::{Blind, Onlooker};
 use std::alloc::Global;
 use std::marker::Model;
 use ternary::{NoMemory, Tern};
@@ -57,7 +57,7 @@ impl<M: Stage> Model for Session<M> {
 
     ghost view = { λ session. record { core = record { circuit = session.circuit; state = M.states session.stage 0; watched = session.watched.items; clocks = session.clocks.items; limit = session.limit; count = session.count; missed = session.missed; vectors = session.vectors; saves = session.saves.items; bound = session.kept.bound; large = session.large; kept = used_texts (M.last session.stage) (texts_of session.kept); fresh = session.fresh }; stage = session.stage } };
 
-    ghost invariant = { λ session. IsHeldSession M.lanes M.states M.serves (record { core = record { circuit = session.circuit; state = M.states session.stage 0; watched = session.watched.items; clocks = session.clocks.items; limit = session.limit; count = session.count; missed = session.missed; vectors = session.vectors; saves = session.saves.items; bound = session.kept.bound; large = session.large; kept = used_texts (M.last session.stage) (texts_of session.kept); fresh = session.fresh }; stage = session.stage })
+    ghost invariant = { λ session. IsHeldSession M.columns M.states M.serves (record { core = record { circuit = session.circuit; state = M.states session.stage 0; watched = session.watched.items; clocks = session.clocks.items; limit = session.limit; count = session.count; missed = session.missed; vectors = session.vectors; saves = session.saves.items; bound = session.kept.bound; large = session.large; kept = used_texts (M.last session.stage) (texts_of session.kept); fresh = session.fresh }; stage = session.stage })
         × AreAmong (M.last session.stage) (texts_of session.kept) };
 }
 
@@ -65,7 +65,7 @@ impl<M: Stage> Session<M> {
     /// The circuit, as edited so far.
     pub fn circuit(&self) -> &Circuit
         ensures value { result.now ≡ self.now.core.circuit }
-        ensures session { IsHeldSession M.lanes M.states M.serves self.now }
+        ensures session { IsHeldSession M.columns M.states M.serves self.now }
     {
         &self.circuit
     }
@@ -102,14 +102,14 @@ impl<M: Stage> Session<M> {
     /// report it fits the circuit, until an edit.
     pub fn stage(&self) -> &M
         ensures value { result.now ≡ self.now.stage }
-        ensures session { IsHeldSession M.lanes M.states M.serves self.now }
+        ensures session { IsHeldSession M.columns M.states M.serves self.now }
     {
         &self.stage
     }
 
     /// Each session is well formed: a call of this is for its contract alone.
     pub(crate) fn is_well_formed(&self)
-        ensures { IsHeldSession M.lanes M.states M.serves self.now }
+        ensures { IsHeldSession M.columns M.states M.serves self.now }
     {
         let _ = &self.alloc;
     }
@@ -215,8 +215,8 @@ impl<M: PlainStage> Session<M> {
             (A.analysed analyst.old) (A.analysed analyst.new) (L.refusals out.old) (L.refusals out.new) result }
         ensures faults { L.faults out.new ≡ faults_applied (L.faults out.old) result }
         ensures named { IfErr result (NamesNode self.new.core.circuit.graph) }
-        ensures before { IsHeldSession M.lanes M.states M.serves self.old }
-        ensures session { IsHeldSession M.lanes M.states M.serves self.new }
+        ensures before { IsHeldSession M.columns M.states M.serves self.old }
+        ensures session { IsHeldSession M.columns M.states M.serves self.new }
     {
         self.apply_seen(command, analyst, out, &mut Blind {})
     }
@@ -243,8 +243,8 @@ impl<M: PlainStage> Session<M> {
             (A.analysed analyst.old) (A.analysed analyst.new) (L.refusals out.old) (L.refusals out.new) result }
         ensures faults { L.faults out.new ≡ faults_applied (L.faults out.old) result }
         ensures named { IfErr result (NamesNode self.new.core.circuit.graph) }
-        ensures before { IsHeldSession M.lanes M.states M.serves self.old }
-        ensures session { IsHeldSession M.lanes M.states M.serves self.new }
+        ensures before { IsHeldSession M.columns M.states M.serves self.old }
+        ensures session { IsHeldSession M.columns M.states M.serves self.new }
         ensures seen { OnOk result (Sees O.begin O.see O.rest (PassesThrough self.old.core command.now) (O.seen onlooker.old) (O.seen onlooker.new)) }
         ensures knows { OnOk result (KnowsBehind O.knows onlooker.new self.old.core command.now self.new.core) }
         ensures unseen { IsUnseen onlooker.old onlooker.new (L.faults out.old) (L.faults out.new) (L.refusals out.old) (L.refusals out.new) result }
@@ -265,7 +265,7 @@ impl<M: PlainStage> Session<M> {
     ) -> Result<(), ApplyFault>
         requires formed { IsFormed command.now }
         requires knows { O.knows onlooker.old self.old.core.state }
-        requires session { IsHeldSession M.lanes M.states M.serves self.old }
+        requires session { IsHeldSession M.columns M.states M.serves self.old }
         ensures obeys { ObeysOn L.hear L.part M.did self.old command.now self.new (L.heard out.old) (L.heard out.new)
             (A.analysed analyst.old) (A.analysed analyst.new) (L.refusals out.old) (L.refusals out.new) result }
         ensures faults { L.faults out.new ≡ faults_applied (L.faults out.old) result }

@@ -1,12 +1,12 @@
 //! The commands that set what later ones go by.
 
 ghost use Rattle.std.specs.Prelude.{◌≡◌, ◌<◌, ◌≤◌, is_some, true, map, All, IfOk};
-ghost use Rattle.path_meaning.specs.Graphs.{nodes};
+ghost use Rattle.switch_paths.specs.Graphs.{nodes};
 ghost use Rattle.netlist.specs.Names.{node_of};
 ghost use Rattle.script_lang.specs.declared.command.Command.TheVariants as family;
 ghost use Rattle.script_lang.specs.declared.command.Setup.TheVariants as asked;
 ghost use Rattle.script_lang.specs.Forms.{AreBeats, IsFormedSetup, IsTimes};
-ghost use Rattle.lane_script.specs.Commands.{IsSharedSetup};
+ghost use Rattle.column_script.specs.Commands.{IsSharedSetup};
 ghost use Rattle.session_meaning.specs.Effects as effect;
 ghost use Rattle.session_meaning.specs.Outcomes.{Quietly};
 

@@ -1,7 +1,7 @@
 //! The state behind a command, as an onlooker is shown it: a look at those nodes alone that may have changed.
 
 ghost use Rattle.std.specs.Prelude.{◌≡◌, length, map, IfSome, OnOk, OnErr};
-ghost use Rattle.oscillation_x.specs.PlainStepping.{numbers_from};
+ghost use Rattle.settling.specs.PlainStepping.{numbers_from};
 ghost use Rattle.script_lang.specs.declared.command.Command.TheVariants as family;
 ghost use Rattle.script_lang.specs.declared.command.Edit.{Edit};
 ghost use Rattle.session_meaning.specs.Sessions.{SessionData};
@@ -11,8 +11,8 @@ ghost use Rattle.cosmos_session.specs.Showing.{IsGivenBy};
 use crate::session::Session;
 use crate::values::Target;
 use column_stage::PlainStage;
-use oscillation_x::{Moved, Onlooker, unfailing};
 use script_lang::{Command, Give};
+use settling::{Moved, Onlooker, unfailing};
 use ternary::{NoMemory, Tern};
 
 // The state of each node, and those nodes that were given states, each with it.

@@ -2,10 +2,10 @@
 
 ghost use Rattle.std.specs.Prelude.{◌≡◌, ◌<◌, ◌≤◌, ◌+◌, List, [], ◌∷◌, length, slice_set, All, IfErr, OnOk};
 ghost use Rattle.std.specs.List.{range_with_len};
-ghost use Rattle.path_meaning.specs.Graphs.{nodes};
-ghost use Rattle.path_meaning.specs.Switching.{state_at};
-ghost use Rattle.path_meaning.specs.declared.TheConstants.{RAILS};
-ghost use Rattle.wave_print.specs.declared.lines.TheConstants.{COLUMN_ROOM, WAVE_LINE_ROOM};
+ghost use Rattle.switch_paths.specs.Graphs.{nodes};
+ghost use Rattle.switch_paths.specs.Switching.{state_at};
+ghost use Rattle.switch_paths.specs.declared.TheConstants.{RAILS};
+ghost use Rattle.printed_lines.specs.declared.lines.TheConstants.{COLUMN_ROOM, WAVE_LINE_ROOM};
 ghost use Rattle.script_lang.specs.declared.command.Command.TheVariants as family;
 ghost use Rattle.script_lang.specs.declared.command.Run.TheVariants as asked;
 ghost use Rattle.script_lang.specs.Forms.{IsFormedRun, IsTimes};
@@ -27,12 +27,12 @@ use crate::session::Session;
 use crate::waves::WaveRoom;
 use analysis_cache::Analyst;
 use column_stage::{PlainStage, Stage};
-use oscillation_x::{Onlooker, Settled};
-use path_meaning::Graph;
+use printed_lines::{COLUMN_ROOM, WAVE_LINE_ROOM};
 use script_lang::Run;
 use session_meaning::{ApplyFault, Clock, places_of};
+use settling::{Onlooker, Settled};
+use switch_paths::Graph;
 use told_lines::Lines;
-use wave_print::{COLUMN_ROOM, WAVE_LINE_ROOM};
 
 impl<M: PlainStage> Session<M> {
     /// Has the circuit built, and does what the command says, under the eyes of an onlooker.
@@ -300,14 +300,14 @@ impl<M: Stage> Session<M> {
 
 // Gives each clock's node its state at a place, in each column.
 fn put_states<M: Stage>(clocks: &[Clock], place: usize, graph: &Graph, stage: &mut M)
-    requires some { 1 ≤ M.lanes stage.old }
-    requires sound { AreSound graph.now (M.lanes stage.old) (M.states stage.old) }
+    requires some { 1 ≤ M.columns stage.old }
+    requires sound { AreSound graph.now (M.columns stage.old) (M.states stage.old) }
     requires within { All (λ clock. clock.node < nodes graph.now) clocks.now }
     requires free { All (λ clock. RAILS ≤ clock.node) clocks.now }
     requires places { All (λ clock. place < length clock.states) clocks.now }
-    ensures lanes { M.lanes stage.new ≡ M.lanes stage.old }
+    ensures columns { M.columns stage.new ≡ M.columns stage.old }
     ensures state { M.states stage.new 0 ≡ effect.states_with clocks.now place (M.states stage.old 0) }
-    ensures sound { AreSound graph.now (M.lanes stage.new) (M.states stage.new) }
+    ensures sound { AreSound graph.now (M.columns stage.new) (M.states stage.new) }
     ensures last { M.last stage.new ≡ M.last stage.old }
     ensures serves { (kept : List GroupTextData) → M.serves stage.old graph.now kept → M.serves stage.new graph.now kept }
     ensures fits { M.fits stage.old graph.now → M.fits stage.new graph.now }
@@ -320,14 +320,14 @@ fn put_states<M: Stage>(clocks: &[Clock], place: usize, graph: &Graph, stage: &m
 
 // Gives a clock's node its state at a place, in each column.
 fn put_state<M: Stage>(clock: &Clock, place: usize, graph: &Graph, stage: &mut M)
-    requires some { 1 ≤ M.lanes stage.old }
-    requires sound { AreSound graph.now (M.lanes stage.old) (M.states stage.old) }
+    requires some { 1 ≤ M.columns stage.old }
+    requires sound { AreSound graph.now (M.columns stage.old) (M.states stage.old) }
     requires within { clock.now.node < nodes graph.now }
     requires free { RAILS ≤ clock.now.node }
     requires place { place < length clock.now.states }
-    ensures lanes { M.lanes stage.new ≡ M.lanes stage.old }
+    ensures columns { M.columns stage.new ≡ M.columns stage.old }
     ensures state { M.states stage.new 0 ≡ slice_set (M.states stage.old 0) clock.now.node (state_at clock.now.states place) }
-    ensures sound { AreSound graph.now (M.lanes stage.new) (M.states stage.new) }
+    ensures sound { AreSound graph.now (M.columns stage.new) (M.states stage.new) }
     ensures last { M.last stage.new ≡ M.last stage.old }
     ensures serves { (kept : List GroupTextData) → M.serves stage.old graph.now kept → M.serves stage.new graph.now kept }
     ensures fits { M.fits stage.old graph.now → M.fits stage.new graph.now }

@@ -3,8 +3,8 @@
 ghost use Rattle.std.specs.Prelude.{◌≡◌, ◌≤◌, ◌<◌, ◌^◌, ℕ, List, [], ◌∷◌, ◌++◌, None, map, length, All, IfErr, IfOk, OnOk};
 ghost use Rattle.std.specs.List.{cons_option, list_all};
 ghost use Rattle.group_text.specs.Texts.{GroupTextData};
-ghost use Rattle.path_meaning.specs.Graphs.{nodes};
-ghost use Rattle.path_meaning.specs.Switching.{state_at};
+ghost use Rattle.switch_paths.specs.Graphs.{nodes};
+ghost use Rattle.switch_paths.specs.Switching.{state_at};
 ghost use Rattle.told_lines.specs.Lines.{AreInRoom, room_of};
 ghost use Rattle.script_lang.specs.declared.command.Command.TheVariants as family;
 ghost use Rattle.script_lang.specs.declared.command.Tell.TheVariants as asked;
@@ -24,6 +24,7 @@ use crate::waves::{WaveRoom, tell_line};
 use column_stage::PlainStage;
 use netlist::Circuit;
 use node_words::{Named, Vectors};
+use printed_lines::{COLUMN_ROOM, EXPECT_LINE_ROOM, SHOW_LINE_ROOM};
 use script_lang::{Name, NameList, Tell, Value, ValueList};
 use session_meaning::ApplyFault;
 use std::alloc::{AllocError, Global};
@@ -31,7 +32,6 @@ use std::marker::Model;
 use ternary::{NoMemory, Tern};
 use told_lines::{Line, Lines};
 use vector_values::Letter;
-use wave_print::{COLUMN_ROOM, EXPECT_LINE_ROOM, SHOW_LINE_ROOM};
 
 /// The line of an expectation that isn't met.
 #[derive(Drop)]

@@ -1,7 +1,7 @@
 //! What assignments give nodes, and why they are refused.
 
 ghost use Rattle.std.specs.Prelude.{◌≡◌, ◌<◌, [], ◌∷◌, ◌++◌, ℕ, None, Ok, All, Option, IfErr, IfOk, OnOk};
-ghost use Rattle.path_meaning.specs.Graphs.{nodes};
+ghost use Rattle.switch_paths.specs.Graphs.{nodes};
 ghost use Rattle.netlist.specs.Circuits.{IsCircuit};
 ghost use Rattle.node_words.specs.Vectors.{AreWithin};
 ghost use Rattle.node_values.specs.Givings as giving;

@@ -1,8 +1,8 @@
 //! Waveform lines: the room of one or of a row of them, taken before the first unit step, and how a line or a row is told.
 
 ghost use Rattle.std.specs.Prelude.{◌≡◌, ◌<◌, ◌≤◌, ℕ, ◌+◌, ◌*◌, ◌^◌, ◌++◌, [], ◌∷◌, length, map, vec_len, vec_capacity, All, IfErr, IfOk};
-ghost use Rattle.path_meaning.specs.Switching.{state_at};
-ghost use Rattle.wave_print.specs.declared.lines.TheConstants.{COLUMN_ROOM, MOST_VALUES, WAVE_LINE_ROOM};
+ghost use Rattle.switch_paths.specs.Switching.{state_at};
+ghost use Rattle.printed_lines.specs.declared.lines.TheConstants.{COLUMN_ROOM, MOST_VALUES, WAVE_LINE_ROOM};
 ghost use Rattle.told_lines.specs.Hearing.{Hears, row_of};
 ghost use Rattle.told_lines.specs.Lines.{Shown, Wave, IsShort, room_of, line_seen};
 ghost use Rattle.told_lines.specs.Rows.{count_at, values_at, wave_row};
@@ -10,8 +10,8 @@ ghost use Rattle.session_meaning.specs.Sinks.{IsSinkFault, faults_applied, refus
 ghost use Rattle.session_meaning.specs.Outcomes.{Sent};
 
 use column_stage::Stage;
-use oscillation_x::Settled;
 use session_meaning::{ApplyFault, MOST_WATCHED};
+use settling::Settled;
 use std::alloc::Global;
 use std::marker::Model;
 use ternary::{NoMemory, Tern};
@@ -112,16 +112,16 @@ impl WaveRoom {
         nodes: &[usize],
         out: &mut L,
     ) -> Result<(), ApplyFault>
-        requires counts { length counts.now ≡ M.lanes stage.now }
-        requires room { M.lanes stage.now * length nodes.now ≤ self.old }
-        requires line { M.lanes stage.now * (COLUMN_ROOM + WAVE_LINE_ROOM) ≤ L.room out.old }
+        requires counts { length counts.now ≡ M.columns stage.now }
+        requires room { M.columns stage.now * length nodes.now ≤ self.old }
+        requires line { M.columns stage.now * (COLUMN_ROOM + WAVE_LINE_ROOM) ≤ L.room out.old }
         requires few { length nodes.now ≤ MOST_WATCHED }
-        requires within { (lane : ℕ) → lane < M.lanes stage.now → All (λ node. node < length (M.states stage.now lane)) nodes.now }
+        requires within { (column : ℕ) → column < M.columns stage.now → All (λ node. node < length (M.states stage.now column)) nodes.now }
         ensures room { self.new ≡ self.old }
         ensures line { L.room out.new ≡ L.room out.old }
         ensures sent { Hears L.hear L.part (L.heard out.old) (L.heard out.new)
-            (row_of (λ lane. Wave n (count_at counts.now lane).steps (count_at counts.now lane).joined (map (state_at (M.states stage.now lane)) nodes.now) ∷ [])
-            (M.lanes stage.now)) result }
+            (row_of (λ column. Wave n (count_at counts.now column).steps (count_at counts.now column).joined (map (state_at (M.states stage.now column)) nodes.now) ∷ [])
+            (M.columns stage.now)) result }
         ensures cause { IfErr result IsSinkFault }
         ensures faults { L.faults out.new ≡ faults_applied (L.faults out.old) result }
         ensures refusals { L.refusals out.new ≡ refusals_sent (L.refusals out.old) result }
@@ -177,29 +177,29 @@ pub(crate) fn tell_line<L: Lines>(line: Line, out: &mut L) -> Result<(), ApplyFa
 // Puts the states of these nodes in each column, column by column, in room that is there.
 fn push_columns<M: Stage>(values: &mut Vec<Tern>, stage: &M, nodes: &[usize])
     requires empty { values.old.items ≡ [] }
-    requires room { M.lanes stage.now * length nodes.now ≤ vec_capacity values.old }
-    requires within { (lane : ℕ) → lane < M.lanes stage.now → All (λ node. node < length (M.states stage.now lane)) nodes.now }
-    ensures few { M.lanes stage.now < 2 ^ 32 }
-    ensures length { length values.new.items ≡ M.lanes stage.now * length nodes.now }
-    ensures each { (lane : ℕ) → lane < M.lanes stage.now
-        → values_at (length nodes.now) values.new.items lane ≡ map (state_at (M.states stage.now lane)) nodes.now }
+    requires room { M.columns stage.now * length nodes.now ≤ vec_capacity values.old }
+    requires within { (column : ℕ) → column < M.columns stage.now → All (λ node. node < length (M.states stage.now column)) nodes.now }
+    ensures few { M.columns stage.now < 2 ^ 32 }
+    ensures length { length values.new.items ≡ M.columns stage.now * length nodes.now }
+    ensures each { (column : ℕ) → column < M.columns stage.now
+        → values_at (length nodes.now) values.new.items column ≡ map (state_at (M.states stage.now column)) nodes.now }
     ensures capacity { vec_capacity values.new ≡ vec_capacity values.old }
 {
-    for lane in 0..stage.lanes() {
-        push_column(values, lane, stage, nodes);
+    for column in 0..stage.columns() {
+        push_column(values, column, stage, nodes);
     }
 }
 
 // Appends the states of these nodes in a column, in room that is there.
-fn push_column<M: Stage>(values: &mut Vec<Tern>, lane: u32, stage: &M, nodes: &[usize])
-    requires lane { lane < M.lanes stage.now }
+fn push_column<M: Stage>(values: &mut Vec<Tern>, column: u32, stage: &M, nodes: &[usize])
+    requires column { column < M.columns stage.now }
     requires room { vec_len values.old + length nodes.now ≤ vec_capacity values.old }
-    requires within { All (λ node. node < length (M.states stage.now lane)) nodes.now }
-    ensures items { values.new.items ≡ values.old.items ++ map (state_at (M.states stage.now lane)) nodes.now }
+    requires within { All (λ node. node < length (M.states stage.now column)) nodes.now }
+    ensures items { values.new.items ≡ values.old.items ++ map (state_at (M.states stage.now column)) nodes.now }
     ensures capacity { vec_capacity values.new ≡ vec_capacity values.old }
 {
     for &node in nodes {
-        values.push_reserved(stage.state(node, lane));
+        values.push_reserved(stage.state(node, column));
     }
 }
 

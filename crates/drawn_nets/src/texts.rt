@@ -1,7 +1,7 @@
 use channel_groups::Groups;
 use group_text::{GroupText, TextFault, text_of};
-use path_meaning::Graph;
 use std::alloc::Global;
+use switch_paths::Graph;
 
 /// The texts of all groups of a graph, each with the nodes that its local nodes stand for.
 pub fn texts_of(alloc: Global, graph: &Graph) -> Result<Vec<(GroupText, Vec<usize>)>, TextFault> {

@@ -3,9 +3,9 @@
 use Rattle.std.specs.Prelude.{◌≡◌, ℕ, ◌<◌, ◌⊎◌, Bool, List, [], ◌∷◌, length}
 use Rattle.ternary.specs.declared.tern.Tern.{Tern}
 use Rattle.ternary.specs.Tern.{may_one, may_zero}
-use Rattle.path_meaning.specs.declared.switching.SwitchKind.{SwitchKind}
-use Rattle.path_meaning.specs.declared.switching.SwitchState.{SwitchState}
-use Rattle.path_meaning.specs.Switching.{state_by}
+use Rattle.switch_paths.specs.declared.switching.SwitchKind.{SwitchKind}
+use Rattle.switch_paths.specs.declared.switching.SwitchState.{SwitchState}
+use Rattle.switch_paths.specs.Switching.{state_by}
 use Rattle.bool_pool.specs.declared.gate.Gate.{Gate}
 use Rattle.bool_pool.specs.declared.gate.Rails.{Rails}
 use Rattle.bool_pool.specs.Gate.{gate_at, IsVariable}

@@ -1,11 +1,11 @@
 ghost use Rattle.std.specs.Prelude.{◌≡◌, ◌≢◌, ◌+◌, ◌≤◌, IfOk};
-ghost use Rattle.path_meaning.specs.Switching.{is_closed, is_live};
+ghost use Rattle.switch_paths.specs.Switching.{is_closed, is_live};
 ghost use Rattle.bool_pool.specs.Gate.{Extends};
 ghost use Rattle.dual_rail.specs.Conduct.{AreInside, Tells};
 
 use bool_pool::{Id, Pool, Rails};
-use path_meaning::SwitchKind;
 use std::sync::ledger::Ledger;
+use switch_paths::SwitchKind;
 use ternary::{NoMemory, Steps};
 
 /// The formula "the switch is closed", for a switch of this kind whose gate has these rails.

@@ -6,12 +6,12 @@ use Rattle.std.proofs.lemmas.List.{length-append, length-drop}
 use Rattle.std.proofs.lemmas.Nat.{mul-le}
 use Rattle.ternary.specs.declared.tern.Tern.{Tern}
 use Rattle.ternary.specs.declared.tern.Tern.TheVariants.{Unk}
-use Rattle.path_meaning.specs.Graphs.{GraphData, nodes}
-use Rattle.path_meaning.specs.Switching.{state_at}
+use Rattle.switch_paths.specs.Graphs.{GraphData, nodes}
+use Rattle.switch_paths.specs.Switching.{state_at}
 use Rattle.netlist.specs.Circuits.{CircuitData}
 use Rattle.netlist.specs.Edits.{node_named}
-use Rattle.path_meaning.specs.declared.switching.Switch.{Switch}
-use Rattle.oscillation_x.specs.Passes.{Pass, state_behind}
+use Rattle.switch_paths.specs.declared.switching.Switch.{Switch}
+use Rattle.settling.specs.Passes.{Pass, state_behind}
 use Rattle.group_text.specs.Texts.{GroupTextData}
 use Rattle.vector_values.specs.Values.{Letter}
 use Rattle.script_lang.specs.declared.command.Command.{Command}

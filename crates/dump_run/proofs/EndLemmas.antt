@@ -4,11 +4,11 @@ use Rattle.std.specs.Prelude.{option_map}
 use Rattle.std.specs.Io.KnownBytes.{append_known}
 use Rattle.std.proofs.lemmas.List.Elements.{All-nil}
 use Rattle.ternary.specs.declared.tern.Tern.{Tern}
-use Rattle.port_edge.specs.declared.ports.PortFault.{PortFault}
-use Rattle.port_edge.specs.declared.ports.PortFault.TheVariants as port
-use Rattle.port_edge.specs.Ports.{RefusedOnce, faults_after}
-use Rattle.port_edge.specs.Sending.{WritesPart}
-use Rattle.port_edge.proofs.SendingLemmas.{part_longer, part_whole}
+use Rattle.ports.specs.declared.ports.PortFault.{PortFault}
+use Rattle.ports.specs.declared.ports.PortFault.TheVariants as port
+use Rattle.ports.specs.Ports.{RefusedOnce, faults_after}
+use Rattle.ports.specs.Sending.{WritesPart}
+use Rattle.ports.proofs.SendingLemmas.{part_longer, part_whole}
 use Rattle.line_words.specs.Files.{cut_line, lines_in}
 use Rattle.netlist.specs.Circuits.{CircuitData}
 use Rattle.group_text.specs.Texts.{GroupTextData}

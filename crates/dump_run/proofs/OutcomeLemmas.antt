@@ -6,7 +6,7 @@ use Rattle.script_lang.specs.declared.command.ScriptFault.{ScriptFault}
 use Rattle.session_meaning.specs.Sessions.{SessionData, IsReady}
 use Rattle.session_meaning.proofs.EffectLemmas.{refused as refused_so, too_large as large_so, performed as performed_so}
 use Rattle.session_meaning.proofs.PassExistence.{command_passes}
-use Rattle.wave_print.specs.declared.faults.FaultCode.TheVariants.{S11TooLong, S17LateWatch}
+use Rattle.printed_lines.specs.declared.faults.FaultCode.TheVariants.{S11TooLong, S17LateWatch}
 use Rattle.run_ends.specs.Causes.{Cause, plain_cause}
 use Rattle.run_ends.proofs.SizeLemmas.{size_caused}
 use Rattle.script_meaning.specs.Codes.{refusal_code}

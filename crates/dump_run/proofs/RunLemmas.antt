@@ -5,7 +5,7 @@ use Rattle.group_text.specs.Texts.{GroupTextData}
 use Rattle.circuit_texts.specs.declared.texts.BuildFault.{BuildFault}
 use Rattle.circuit_texts.specs.Sizes.{TellsRefused}
 use Rattle.script_lang.specs.declared.command.Command.{Command}
-use Rattle.wave_print.specs.declared.faults.FaultCode.{FaultCode}
+use Rattle.printed_lines.specs.declared.faults.FaultCode.{FaultCode}
 use Rattle.wave_dump.specs.Scenes.{Scene}
 use Rattle.wave_dump.specs.Writing.{Sheet, Telling, tell_all}
 use Rattle.run_ends.specs.declared.stop.Stop.{Stop}

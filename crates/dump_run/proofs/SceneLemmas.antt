@@ -3,8 +3,8 @@ use Rattle.std.proofs.Common.{◌≡◌, ◌⊎◌, ℕ, inl, inr, true≢false,
 use Rattle.std.specs.Prelude.{if◌then◌else◌, unwrap_or}
 use Rattle.std.proofs.lemmas.List.{drop_all, drop_more}
 use Rattle.ternary.specs.declared.tern.Tern.{Tern}
-use Rattle.oscillation_x.specs.Passing.{see_all}
-use Rattle.oscillation_x.specs.Passes.{Pass, state_behind, see_pass, see_passes, last_behind}
+use Rattle.settling.specs.Passing.{see_all}
+use Rattle.settling.specs.Passes.{Pass, state_behind, see_pass, see_passes, last_behind}
 use Rattle.told_lines.specs.Lines.{Line, Wave, Refused, Told, line_text}
 use Rattle.told_lines.specs.Hearing.{hear_all, HearsFront, HearsPart as HearsLines, of_column}
 use Rattle.told_lines.proofs.HearingLemmas.{hear_all-append}

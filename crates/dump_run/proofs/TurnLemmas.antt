@@ -3,8 +3,8 @@ use Rattle.std.proofs.Common.{◌≡◌, ◌≢◌, ◌⊎◌, ℕ, ◌<◌, ◌
 use Rattle.std.specs.Prelude.{IfErr, is_some}
 use Rattle.std.proofs.lemmas.List.Elements.{All-append, All-nil, All-cons, All-weaker}
 use Rattle.ternary.specs.declared.tern.Tern.{Tern}
-use Rattle.path_meaning.specs.Graphs.{nodes}
-use Rattle.oscillation_x.specs.Passes.{Pass, last_behind, see_passes}
+use Rattle.switch_paths.specs.Graphs.{nodes}
+use Rattle.settling.specs.Passes.{Pass, last_behind, see_passes}
 use Rattle.line_words.specs.Files.{is_cut}
 use Rattle.group_text.specs.Texts.{GroupTextData}
 use Rattle.script_lang.specs.declared.command.Command.{Command}
@@ -15,8 +15,8 @@ use Rattle.script_lang.specs.declared.command.ScriptFault.TheVariants as script
 use Rattle.script_lang.specs.Forms.{IsFormed}
 use Rattle.told_lines.specs.Lines.{Line, Told}
 use Rattle.told_lines.specs.Hearing.{hear_all, of_column}
-use Rattle.wave_print.specs.declared.faults.FaultCode.{FaultCode}
-use Rattle.wave_print.specs.declared.faults.FaultCode.TheVariants.{S11TooLong}
+use Rattle.printed_lines.specs.declared.faults.FaultCode.{FaultCode}
+use Rattle.printed_lines.specs.declared.faults.FaultCode.TheVariants.{S11TooLong}
 use Rattle.wave_dump.specs.Dumps.{Page}
 use Rattle.wave_dump.specs.Entries.{IsInside}
 use Rattle.wave_dump.specs.Scenes.{EntryData, Scene, Watched}

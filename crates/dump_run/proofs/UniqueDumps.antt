@@ -1,6 +1,6 @@
 -- A script has one dump: each line asks for nothing, tells one list of scenes, or is refused for one cause, and no two of these.
 use Rattle.std.proofs.Common.{◌≡◌, ℕ, Bool, ◌&&◌, ◌||◌, List, [], Option, refl, sym, ap, subst, ◌∙◌, true≢false}
-use Rattle.oscillation_x.specs.Passes.{Pass}
+use Rattle.settling.specs.Passes.{Pass}
 use Rattle.group_text.specs.Texts.{GroupTextData}
 use Rattle.script_lang.specs.declared.command.Command.{Command}
 use Rattle.told_lines.specs.Lines.{Line}

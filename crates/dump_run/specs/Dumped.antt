@@ -1,7 +1,7 @@
 -- What the value change dump of a script tells: its lines as scenes, one after the other, and how it ends.
 -- IEEE Standard 1364, section 18.
 use Rattle.std.specs.Prelude.{◌≡◌, ℕ, Bool, true, false, ◌&&◌, ◌||◌, List, [], ◌∷◌, ◌++◌, map, Option, None, Some, option_map, unwrap_or}
-use Rattle.oscillation_x.specs.Passes.{Pass}
+use Rattle.settling.specs.Passes.{Pass}
 use Rattle.line_words.specs.Files.{lines_in, cut_line}
 use Rattle.netlist.specs.Circuits.{CircuitData}
 use Rattle.group_text.specs.Texts.{GroupTextData}
@@ -11,7 +11,7 @@ use Rattle.script_lang.specs.declared.command.Command.TheVariants as family
 use Rattle.script_lang.specs.declared.command.Setup.TheVariants as setup
 use Rattle.script_lang.specs.declared.command.Run.TheVariants as run
 use Rattle.told_lines.specs.Lines.{Line, Wave, line_text}
-use Rattle.wave_print.specs.declared.faults.FaultCode.TheVariants.{S17LateWatch}
+use Rattle.printed_lines.specs.declared.faults.FaultCode.TheVariants.{S17LateWatch}
 use Rattle.wave_dump.specs.Dumps.{dump_of}
 use Rattle.wave_dump.specs.Scenes.{EntryData, Scene, Wrote, Watched, Became, Passed}
 use Rattle.wave_dump.specs.Writing.{without_end}

@@ -1,7 +1,7 @@
 -- Laws of dumps: what comes of one is determined.
 use Rattle.std.specs.Prelude.{◌≡◌, ℕ, ◌⊎◌, Bool, List, Option, Some}
 use Rattle.session_meaning.specs.Sessions.{SessionData}
-use Rattle.wave_print.specs.declared.faults.FaultCode.TheVariants.{S17LateWatch}
+use Rattle.printed_lines.specs.declared.faults.FaultCode.TheVariants.{S17LateWatch}
 use Rattle.run_ends.specs.Answers.{Answer}
 use Rattle.run_ends.specs.Causes.{plain_cause}
 use Rattle.script_meaning.specs.Runs.{Outcome, Runs, plain_reading}

@@ -1,6 +1,6 @@
 -- What one line of a script comes to, and all of them, with what was told of the dump.
 use Rattle.std.specs.Prelude.{◌≡◌, ℕ, ◌⊎◌, Bool, true, false, ◌&&◌, ◌||◌, List, ◌++◌, length, map, All, Option, None, Some, option_map, is_some, Result, Ok, Err}
-use Rattle.oscillation_x.specs.Passes.{Pass}
+use Rattle.settling.specs.Passes.{Pass}
 use Rattle.ternary.specs.declared.tern.Tern.{Tern}
 use Rattle.group_text.specs.Texts.{GroupTextData}
 use Rattle.script_lang.specs.declared.command.Command.{Command}
@@ -9,14 +9,14 @@ use Rattle.wave_dump.specs.Entries.{IsInside}
 use Rattle.wave_dump.specs.Pens.{IsSent, SinkSeen}
 use Rattle.wave_dump.specs.Scenes.{Watched}
 use Rattle.wave_dump.specs.Writing.{Sheet, Telling, finished, tell_all}
-use Rattle.port_edge.specs.declared.ports.PortFault.{PortFault}
+use Rattle.ports.specs.declared.ports.PortFault.{PortFault}
 use Rattle.run_ends.specs.Stops.{write_stop_of}
 use Rattle.session_meaning.specs.Sessions.{SessionData}
 use Rattle.session_meaning.specs.Outcomes.{Keeps, Performs, RefusesSize}
 use Rattle.session_meaning.specs.Refusals.{refusal_of}
 use Rattle.session_meaning.specs.declared.fault.Refusal.{Refusal}
-use Rattle.wave_print.specs.declared.faults.FaultCode.{FaultCode}
-use Rattle.wave_print.specs.declared.faults.FaultCode.TheVariants.{S17LateWatch}
+use Rattle.printed_lines.specs.declared.faults.FaultCode.{FaultCode}
+use Rattle.printed_lines.specs.declared.faults.FaultCode.TheVariants.{S17LateWatch}
 use Rattle.script_meaning.specs.Codes.{refusal_code}
 use Rattle.session_meaning.specs.Passing.{PassesThrough}
 use Rattle.run_ends.specs.declared.stop.End as end

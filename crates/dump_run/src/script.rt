@@ -20,7 +20,8 @@ use group_analysis::Analyst;
 use line_words::{Line, cut_line, front, lines};
 use netlist::Circuit;
 use node_words::Named;
-use port_edge::Sink;
+use ports::Sink;
+use printed_lines::{FaultCode, LineBuf};
 use run_ends::{End, Stop};
 use script_lang::{Command, Name, NameList, Run, Setup};
 use script_meaning::{Halt, Turn};
@@ -29,7 +30,6 @@ use std::alloc::Global;
 use ternary::NoMemory;
 use told_lines::Silence;
 use wave_dump::{Dump, dumps_are_told};
-use wave_print::{FaultCode, LineBuf};
 
 /// Runs the lines of a script from the start in a circuit, and writes the run to the sink as a value change dump. It hands back
 /// the sink.
@@ -202,7 +202,7 @@ fn dump_command<M: PlainStage, S: Sink + Drop, A: Analyst>(
     analyst: &mut A,
 ) -> Result<Turn, Stop>
     requires formed { IsFormed command.now }
-    requires session { IsHeldSession M.lanes M.states M.serves session.old }
+    requires session { IsHeldSession M.columns M.states M.serves session.old }
     requires rests { Rests out.old.sheet session.old.core.state }
     ensures turn { DumpsCommand command.now session.old.core session.new.core
         out.old.sheet out.new.sheet (A.analysed analyst.old) (A.analysed analyst.new) result }
@@ -248,7 +248,7 @@ fn move_on<M: PlainStage, S: Sink + Drop, A: Analyst>(
 ) -> Result<Turn, Stop>
     requires formed { IsFormed command.now }
     requires moves { is_move command.now ≡ true }
-    requires session { IsHeldSession M.lanes M.states M.serves session.old }
+    requires session { IsHeldSession M.columns M.states M.serves session.old }
     requires rests { Rests out.old.sheet session.old.core.state }
     ensures turn { DumpsCommand command.now session.old.core session.new.core
         out.old.sheet out.new.sheet (A.analysed analyst.old) (A.analysed analyst.new) result }
@@ -272,7 +272,7 @@ fn watch<M: PlainStage, S: Sink + Drop, A: Analyst>(
 ) -> Result<Turn, Stop>
     requires formed { IsFormed command.now }
     requires is { command.now ≡ family.Setup (setup.Watch names.now) }
-    requires session { IsHeldSession M.lanes M.states M.serves session.old }
+    requires session { IsHeldSession M.columns M.states M.serves session.old }
     requires rests { Rests out.old.sheet session.old.core.state }
     ensures turn { DumpsCommand command.now session.old.core session.new.core
         out.old.sheet out.new.sheet (A.analysed analyst.old) (A.analysed analyst.new) result }

@@ -1,7 +1,7 @@
 -- Edits that are taken back.
 use Rattle.std.specs.Prelude.{◌≡◌, ℕ, ◌<◌, length, Option, Some, None, IfSome}
-use Rattle.path_meaning.specs.declared.switching.Switch.{Switch}
-use Rattle.path_meaning.specs.Graphs.{GraphData, nodes, level_of, place_at}
+use Rattle.switch_paths.specs.declared.switching.Switch.{Switch}
+use Rattle.switch_paths.specs.Graphs.{GraphData, nodes, level_of, place_at}
 use Rattle.channel_groups.specs.declared.change.Change.{Change}
 
 -- the edit made no nodes; the place that it changed is one of the graph's places, and the node one of its nodes

@@ -1,12 +1,12 @@
 //! One edit, taken back.
 ghost use Rattle.std.specs.Prelude.{◌≡◌, ◌<◌, length, IfSome};
 ghost use Rattle.strength_order.specs.Levels.{IsLevel};
-ghost use Rattle.path_meaning.specs.Graphs.{nodes, FitsPlace, IsWired};
+ghost use Rattle.switch_paths.specs.Graphs.{nodes, FitsPlace, IsWired};
 ghost use Rattle.channel_groups.specs.Changes.{undo, with_place, with_level};
 ghost use Rattle.edit_undo.specs.Undoing.{IsInPlace, place_now, level_now};
 
 use channel_groups::Change;
-use path_meaning::{Graph, Switch};
+use switch_paths::{Graph, Switch};
 
 /// How the graph is until an edit is taken back, for what follows that.
 pub fn way_back(graph: &Graph, change: &Change) -> Change

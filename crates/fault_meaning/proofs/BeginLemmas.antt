@@ -5,9 +5,9 @@ use Rattle.std.proofs.lemmas.Bool.Decides.{nat_tests}
 use Rattle.std.proofs.lemmas.List.Elements.{All-nil, All-cons, All-head, All-tail}
 use Rattle.ternary.specs.declared.tern.Tern.{Tern}
 use Rattle.strength_order.specs.declared.TheConstants.{INPUT_LEVEL}
-use Rattle.path_meaning.specs.declared.TheConstants.{GND, VDD, RAILS}
-use Rattle.path_meaning.specs.declared.switching.SwitchKind.TheVariants.{Always}
-use Rattle.path_meaning.specs.Graphs.{nodes}
+use Rattle.switch_paths.specs.declared.TheConstants.{GND, VDD, RAILS}
+use Rattle.switch_paths.specs.declared.switching.SwitchKind.TheVariants.{Always}
+use Rattle.switch_paths.specs.Graphs.{nodes}
 use Rattle.netlist.specs.Names.{first_name, node_of}
 use Rattle.netlist.specs.Circuits.{CircuitData, IsCircuit, called}
 use Rattle.netlist.specs.Edits.{switch_numbered, with_input, without_switch, with_kind}

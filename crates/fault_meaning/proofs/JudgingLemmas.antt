@@ -5,12 +5,12 @@ use Rattle.std.proofs.Common.{◌≡◌, ◌≢◌, ℕ, ◌+◌, ◌<◌, ◌�
 use Rattle.std.proofs.lemmas.List.{drop_all, drop_more}
 use Rattle.std.proofs.lemmas.List.Elements.{All-drop, All-get_or}
 use Rattle.std.specs.Io.KnownBytes.{append_known}
-use Rattle.port_edge.specs.Sending.{WritesPart}
-use Rattle.port_edge.proofs.SendingLemmas.{append_known-nil, append_known-append, sends_part, part_whole, part_longer}
+use Rattle.ports.specs.Sending.{WritesPart}
+use Rattle.ports.proofs.SendingLemmas.{append_known-nil, append_known-append, sends_part, part_whole, part_longer}
 use Rattle.netlist.specs.Circuits.{CircuitData, IsCircuit}
 use Rattle.session_meaning.specs.Sessions.{SessionData}
-use Rattle.wave_print.specs.Verdicts.{faults_line_of}
-use Rattle.wave_print.specs.declared.faults.FaultPlace.TheVariants.{Script}
+use Rattle.printed_lines.specs.Verdicts.{faults_line_of}
+use Rattle.printed_lines.specs.declared.faults.FaultPlace.TheVariants.{Script}
 use Rattle.told_lines.specs.Printing.{Page, print, PrintsPart}
 use Rattle.told_lines.proofs.PrintingLemmas.{plain-all, plain-front}
 use Rattle.group_text.specs.Texts.{GroupTextData}

@@ -6,8 +6,8 @@ use Rattle.std.proofs.lemmas.List.{length-map}
 use Rattle.std.proofs.lemmas.List.Elements.{All-nil, All-cons, All-append, All-head, All-tail, All-weaker, All-get_or}
 use Rattle.std.proofs.lemmas.Option.{slice_get_within, slice_get-get_or, get_or_from_slice_get}
 use Rattle.ternary.specs.declared.tern.Tern.{Tern}
-use Rattle.path_meaning.specs.Switching.{state_at}
-use Rattle.path_meaning.specs.declared.switching.Switch.{Switch}
+use Rattle.switch_paths.specs.Switching.{state_at}
+use Rattle.switch_paths.specs.declared.switching.Switch.{Switch}
 use Rattle.netlist.specs.Circuits.{CircuitData, called}
 use Rattle.netlist.specs.Edits.{node_named}
 use Rattle.vector_values.specs.Values.{Letter}

@@ -8,7 +8,7 @@ use Rattle.std.proofs.lemmas.List.Folds.{list_any-append}
 use Rattle.std.proofs.lemmas.Map.Keys.{IsDistinct-push}
 use Rattle.std.proofs.lemmas.Map.Made.{AllPairs-from_IsDistinct}
 use Rattle.ternary.specs.declared.tern.Tern.{Tern}
-use Rattle.path_meaning.specs.declared.switching.SwitchKind.TheVariants.{Always}
+use Rattle.switch_paths.specs.declared.switching.SwitchKind.TheVariants.{Always}
 use Rattle.line_words.specs.Files.{cut_line, lines_in}
 use Rattle.netlist.specs.Circuits.{CircuitData, called}
 use Rattle.group_text.specs.Texts.{GroupTextData}

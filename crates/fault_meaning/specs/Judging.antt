@@ -2,8 +2,8 @@
 use Rattle.std.specs.Prelude.{◌≡◌, ◌⊎◌, ℕ, Bool, true, false, List, [], ◌∷◌, ◌++◌, length, count_by, slice_get, unwrap_or, Some, None, Result, Ok, Err}
 use Rattle.netlist.specs.Circuits.{CircuitData}
 use Rattle.group_text.specs.Texts.{GroupTextData}
-use Rattle.wave_print.specs.declared.faults.FaultPlace.TheVariants as place
-use Rattle.wave_print.specs.Verdicts.{detected_line_of, possible_line_of, refused_line_of, undetected_line_of, faults_line_of}
+use Rattle.printed_lines.specs.declared.faults.FaultPlace.TheVariants as place
+use Rattle.printed_lines.specs.Verdicts.{detected_line_of, possible_line_of, refused_line_of, undetected_line_of, faults_line_of}
 use Rattle.fault_sim.specs.declared.verdicts.Verdict.{Verdict}
 use Rattle.fault_sim.specs.declared.verdicts.Verdict.TheVariants.{Detected, Refused, Possible, Undetected}
 use Rattle.fault_sim.specs.Traces.{Trace, IsVerdict}

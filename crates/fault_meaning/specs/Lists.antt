@@ -3,8 +3,8 @@
 use Rattle.std.specs.Prelude.{ℕ, List, [], ◌∷◌, ◌++◌, Option, Some, None, Result, Ok, Err, if◌then◌else◌}
 use Rattle.line_words.specs.Files.{cut_line, is_cut, lines_in}
 use Rattle.netlist.specs.Circuits.{CircuitData}
-use Rattle.wave_print.specs.declared.faults.FaultCode.{FaultCode}
-use Rattle.wave_print.specs.declared.faults.FaultCode.TheVariants as code
+use Rattle.printed_lines.specs.declared.faults.FaultCode.{FaultCode}
+use Rattle.printed_lines.specs.declared.faults.FaultCode.TheVariants as code
 use Rattle.fault_sim.specs.declared.fault.Fault.{Fault}
 use Rattle.fault_sim.specs.declared.fault.ListFault.{ListFault}
 use Rattle.fault_sim.specs.declared.fault.ListFault.TheVariants.{LineTooLong, BadByte, BadFault, NoSuchSwitch, UnknownNode, Rail}

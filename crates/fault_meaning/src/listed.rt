@@ -1,7 +1,7 @@
 //! The lines of a list of faults.
 
 use fault_sim::Fault;
-use wave_print::FaultCode;
+use printed_lines::FaultCode;
 
 /// A fault of a list, with the number of its line.
 #[derive(Clone, Copy, PartialEq, Eq)]

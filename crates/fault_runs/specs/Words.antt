@@ -6,7 +6,7 @@ pub use Rattle.fault_sim.specs.Benches.{JudgesBy}
 pub use Rattle.fault_sim.specs.Changes.{commands_in}
 pub use Rattle.fault_sim.specs.Faults.{IsFault}
 pub use Rattle.netlist.specs.Circuits.{called, HasVisibleNames, IsCircuit}
-pub use Rattle.port_edge.specs.Sending.{WritesPart}
+pub use Rattle.ports.specs.Sending.{WritesPart}
 pub use Rattle.run_ends.specs.Ends.{IsToldBy}
 pub use Rattle.run_ends.specs.Stops.{faults_written, IsRefusedOnce}
 pub use Rattle.script_lang.specs.Forms.{IsFormed}
@@ -14,4 +14,4 @@ pub use Rattle.session_meaning.specs.Outcomes.{Does}
 pub use Rattle.session_meaning.specs.Refusals.{refusal_of}
 pub use Rattle.session_meaning.specs.Sessions.{start_of, IsReady}
 pub use Rattle.told_lines.specs.Noting.{states_of}
-pub use Rattle.wave_print.specs.Verdicts.{faults_line_of}
+pub use Rattle.printed_lines.specs.Verdicts.{faults_line_of}

@@ -13,7 +13,11 @@ use fault_meaning::VerdictCounts;
 use fault_sim::Verdict;
 use group_analysis::Analyst;
 use netlist::Circuit;
-use port_edge::{Sink, send};
+use ports::{Sink, send};
+use printed_lines::{
+    FAULTS_LINE_ROOM, FaultPlace, LineBuf, VERDICT_LINE_ROOM, detected_line, faults_line,
+    possible_line, refused_line, undetected_line,
+};
 use refusal_words::list_word;
 use run_ends::{End, Stop, refuse};
 use script_meaning::Halt;
@@ -21,10 +25,6 @@ use script_run::refuse_halt;
 use std::alloc::Global;
 use ternary::NoMemory;
 use told_lines::Printer;
-use wave_print::{
-    FAULTS_LINE_ROOM, FaultPlace, LineBuf, VERDICT_LINE_ROOM, detected_line, faults_line,
-    possible_line, refused_line, undetected_line,
-};
 
 /// Judges each fault of a list by the run of a script under it beside the good run, from the start in a
 /// circuit, and writes the verdicts' lines, each as soon as it is known, and last the line of the counts.

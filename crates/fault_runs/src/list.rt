@@ -8,10 +8,10 @@ use fault_meaning::{ListRefusal, ListedFault};
 use fault_sim::{Fault, ListFault, read_fault};
 use line_words::{Line, cut_line, front, lines};
 use netlist::Circuit;
+use printed_lines::FaultCode;
 use script_lang::ItemList;
 use std::alloc::Global;
 use ternary::NoMemory;
-use wave_print::FaultCode;
 
 /// The faults of a list, which contracts see as a list.
 pub(crate) type FaultList = ItemList<ListedFault>;

@@ -1,7 +1,7 @@
 -- The commands of a fault are well formed, where the circuit's names are those that a line can hold.
 use Rattle.std.proofs.Common.{◌≡◌, ℕ, List, [], ◌∷◌, All, Option, Result, Ok, Err, IfOk, sym, subst, arith}
 use Rattle.std.proofs.lemmas.List.Elements.{All-nil, All-cons}
-use Rattle.path_meaning.specs.declared.switching.SwitchKind.TheVariants.{Always}
+use Rattle.switch_paths.specs.declared.switching.SwitchKind.TheVariants.{Always}
 use Rattle.netlist.specs.Circuits.{CircuitData, HasVisibleNames, called}
 use Rattle.line_words.specs.Visible.{IsVisibleName}
 use Rattle.script_lang.specs.declared.command.Command.{Command}

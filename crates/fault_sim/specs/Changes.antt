@@ -1,7 +1,7 @@
 -- What a fault does before the script: the commands that it stands for, and the node that is stuck from then on.
 use Rattle.std.specs.Prelude.{ℕ, List, [], ◌∷◌, Option, Some, None}
 use Rattle.ternary.specs.declared.tern.Tern.{Tern}
-use Rattle.path_meaning.specs.declared.switching.SwitchKind.TheVariants.{Always}
+use Rattle.switch_paths.specs.declared.switching.SwitchKind.TheVariants.{Always}
 use Rattle.netlist.specs.Circuits.{CircuitData, called}
 use Rattle.script_lang.specs.declared.command.Command.{Command}
 use Rattle.script_lang.specs.declared.command.Command.TheVariants as family

@@ -11,9 +11,9 @@ ghost use Rattle.fault_sim.specs.Faults.{IsFault};
 
 use crate::fault::Fault;
 use netlist::Circuit;
-use path_meaning::SwitchKind;
 use script_lang::{Command, Edit, Give, Name, NameList, Value, ValueList};
 use std::alloc::Global;
+use switch_paths::SwitchKind;
 use ternary::{NoMemory, Tern};
 
 /// The commands that a fault stands for, which are obeyed before the script: `del K` for an open

@@ -1,7 +1,7 @@
 //! The lines of a list of faults.
 ghost use Rattle.std.specs.Prelude.{◌≡◌, ◌<◌, ◌≤◌, IfOk, IfSome, is_some, true};
 ghost use Rattle.line_words.specs.Decimals.{decimal_of};
-ghost use Rattle.path_meaning.specs.Graphs.{nodes};
+ghost use Rattle.switch_paths.specs.Graphs.{nodes};
 ghost use Rattle.netlist.specs.Names.{node_of};
 ghost use Rattle.netlist.specs.Edits.{switch_numbered};
 ghost use Rattle.fault_sim.specs.Faults.{fault_of, fault_of_line, fault_of_words, free_node, kind_of, number_of, IsFault};

@@ -3,8 +3,8 @@ use Rattle.std.proofs.Common.{◌≡◌, zero, suc, List, [], length, replicate,
 use Rattle.std.proofs.lemmas.List.{append-nil, length-append, length-replicate}
 use Rattle.ternary.specs.declared.tern.Tern.{Tern}
 use Rattle.ternary.specs.declared.tern.Tern.TheVariants.{Unk}
-use Rattle.path_meaning.specs.Switching.{state_at}
-use Rattle.oscillation_x.specs.Moved.{IsGrown, ListsChanges}
+use Rattle.switch_paths.specs.Switching.{state_at}
+use Rattle.settling.specs.Moved.{IsGrown, ListsChanges}
 
 -- it is the same
 pub grown_same : (old new : List Tern) → IsGrown old new → length new ≡ length old → new ≡ old

@@ -3,8 +3,8 @@ use Rattle.std.proofs.Common.{◌≡◌, inl, inr, Bool, true, false, List, [], 
 use Rattle.std.proofs.lemmas.Bool.{cases_Bool, and_parts}
 use Rattle.std.proofs.lemmas.List.{append_assoc, append-nil}
 use Rattle.ternary.specs.declared.tern.Tern.{Tern}
-use Rattle.oscillation_x.specs.Passing.{see_all}
-use Rattle.oscillation_x.specs.Passes.{Pass, see_pass, see_passes}
+use Rattle.settling.specs.Passing.{see_all}
+use Rattle.settling.specs.Passes.{Pass, see_pass, see_passes}
 use Rattle.good_run.specs.Recording.{RunData, has_room, look_at, shown_by, shown_of}
 use Rattle.good_run.specs.Laws.{rest_in, RecordsTellThePasses}
 use Rattle.good_run.proofs.RecordLemmas.{look_noted, look_lost}

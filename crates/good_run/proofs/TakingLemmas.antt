@@ -8,8 +8,8 @@ use Rattle.std.proofs.lemmas.List.Elements.{Contains-append_left, Contains-push,
 use Rattle.ternary.specs.declared.tern.Tern.{Tern}
 use Rattle.ternary.specs.declared.tern.Tern.TheVariants.{Zero}
 use Rattle.ternary.proofs.TernLemmas.{same_or_other}
-use Rattle.path_meaning.specs.Switching.{state_at}
-use Rattle.oscillation_x.specs.Moved.{ListsChanges}
+use Rattle.switch_paths.specs.Switching.{state_at}
+use Rattle.settling.specs.Moved.{ListsChanges}
 use Rattle.part_words.specs.declared.change.Change.{Change}
 use Rattle.good_run.specs.Recording.{count_apart}
 use Rattle.good_run.specs.Looks.{KeepsNode, NotesNode, LosesNode, TakesNode, TakesSoFar, NotesChanges, HasMore}

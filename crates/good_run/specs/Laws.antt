@@ -1,6 +1,6 @@
 -- The law of records, proved as the contract of a function in `src/laws.rt`.
 use Rattle.std.specs.Prelude.{◌≡◌, ℕ, true, false, List, ◌++◌}
-use Rattle.oscillation_x.specs.Passes.{Pass, see_passes}
+use Rattle.settling.specs.Passes.{Pass, see_passes}
 use Rattle.good_run.specs.Recording.{RunData, look_at, shown_of}
 
 -- what the end of a step or a phase makes of a record: nothing

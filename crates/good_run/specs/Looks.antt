@@ -1,7 +1,7 @@
 -- The looks of a record: where the changes of each end in one list.
 use Rattle.std.specs.Prelude.{◌≡◌, ◌≢◌, ℕ, ◌+◌, ◌-◌, ◌<◌, ◌≤◌, ◌⊎◌, Bool, true, false, List, [], ◌∷◌, ◌++◌, length, map, take, drop, Contains, slice_set, slice_index_or}
 use Rattle.ternary.specs.declared.tern.Tern.{Tern}
-use Rattle.path_meaning.specs.Switching.{state_at}
+use Rattle.switch_paths.specs.Switching.{state_at}
 use Rattle.part_words.specs.declared.change.Change.{Change}
 use Rattle.good_run.specs.declared.look.Look.{Look}
 use Rattle.good_run.specs.Recording.{Shown, count_apart}

@@ -1,16 +1,16 @@
 //! The recorder.
 ghost use Rattle.std.specs.Prelude.{◌≡◌, ◌≢◌, ◌+◌, ◌++◌, ◌<◌, ◌≤◌, ◌⊎◌, ◌&&◌, true, false, [], ◌∷◌, length, map, Contains, slice_index_or, vec_len, vec_capacity, if◌then◌else◌, IfOk, OnOk, OnErr};
 ghost use Rattle.std.specs.Bool.{OnTrue, OnFalse};
-ghost use Rattle.path_meaning.specs.Switching.{state_at};
+ghost use Rattle.switch_paths.specs.Switching.{state_at};
 ghost use Rattle.part_words.specs.declared.change.Change.{Change};
 ghost use Rattle.machine_parts.specs.Words.{AreAgreed, IsTaken};
-ghost use Rattle.oscillation_x.specs.Moved.{ListsChanges};
+ghost use Rattle.settling.specs.Moved.{ListsChanges};
 ghost use Rattle.good_run.specs.Words.{RunData, count_apart, look_at, without_look, state_before, begins_at, rest_in, IsEmpty, NotesChanges, TakesNode};
 ghost use Rattle.good_run.specs.Looks.{between, from_of, HasMore};
 
 use crate::look::Look;
-use oscillation_x::{Moved, Never, Observer, Onlooker};
 use part_words::Change;
+use settling::{Moved, Never, Observer, Onlooker};
 use std::alloc::{AllocError, Global};
 use std::marker::Model;
 use ternary::{NoMemory, Tern};

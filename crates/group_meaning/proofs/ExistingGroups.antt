@@ -6,14 +6,14 @@ use Rattle.std.proofs.Common.{◌≡◌, ℕ, ◌↔◌, ◌⊎◌, inl, inr, Bo
 use Rattle.std.specs.List.Sorted.{IsStrictlyIncreasing}
 use Rattle.std.proofs.lemmas.Bool.{and_parts, and_from, or_cases, or_left, or_right, eqb-true, eq-eqb}
 use Rattle.std.proofs.lemmas.List.Elements.{All-map, Contains-get_or}
-use Rattle.path_meaning.specs.declared.switching.Switch.{Switch}
-use Rattle.path_meaning.specs.Graphs.{GraphData, nodes, place_at, IsStorage}
+use Rattle.switch_paths.specs.declared.switching.Switch.{Switch}
+use Rattle.switch_paths.specs.Graphs.{GraphData, nodes, place_at, IsStorage}
 use Rattle.group_meaning.specs.Groups.{AreLinked, TouchesAny, Group, id_of, IsGroup, AreGroups}
 use Rattle.group_meaning.specs.Laws.{GroupsExist}
 use Rattle.group_meaning.proofs.LinkLemmas.{AreLinked-to}
 use Rattle.group_meaning.proofs.AscendingLists.{first_is_least, picked, contains-picked, picked-passes, picked-ascends}
 use Rattle.group_meaning.proofs.MappedLists.{contains-map, map-back}
-use Rattle.path_meaning.proofs.PathLemmas.{place_inside}
+use Rattle.switch_paths.proofs.PathLemmas.{place_inside}
 use Rattle.group_meaning.proofs.Labels.{is_storage, IsStorage-from_test, test-from_IsStorage, AreLabels, IsSound-from_rooted, one_label-iff_linked, root_is_own, labels_exist}
 
 module _ (g : GraphData) (all : AreLabels g) where

@@ -4,10 +4,10 @@ use Rattle.std.proofs.Common.{◌≡◌, ℕ, ◌<◌, ◌⊎◌, inl, inr, Some
 use Rattle.std.specs.Prelude.{Contains}
 use Rattle.std.proofs.lemmas.Bool.{cases_lt}
 use Rattle.strength_order.specs.declared.TheConstants.{INPUT_LEVEL}
-use Rattle.path_meaning.specs.declared.switching.Switch.{Switch}
-use Rattle.path_meaning.specs.Graphs.{GraphData, IsWired, nodes, level_of, place_at, IsStorage}
-use Rattle.path_meaning.specs.Path.{Joins}
-use Rattle.path_meaning.proofs.PathLemmas.{switch_fits, level_fits}
+use Rattle.switch_paths.specs.declared.switching.Switch.{Switch}
+use Rattle.switch_paths.specs.Graphs.{GraphData, IsWired, nodes, level_of, place_at, IsStorage}
+use Rattle.switch_paths.specs.Path.{Joins}
+use Rattle.switch_paths.proofs.PathLemmas.{switch_fits, level_fits}
 use Rattle.group_meaning.specs.Groups.{AreJoined, AreLinked, Group, id_of, IsGroup}
 use Rattle.group_meaning.proofs.LinkLemmas.{Joins-sym, AreLinked-to, AreLinked-trans, AreLinked-joined}
 

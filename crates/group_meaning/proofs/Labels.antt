@@ -5,10 +5,10 @@
 use Rattle.std.proofs.Common.{◌≡◌, ℕ, zero, suc, ◌<◌, ◌≤◌, ◌⊎◌, ◌↔◌, inl, inr, Bool, true, ◌&&◌, cond, eqb, ltb, List, [], ◌∷◌, length, Option, Some, None, refl, sym, ap, subst, ◌∙◌, arith}
 use Rattle.std.proofs.lemmas.Bool.{cases_lt, cases_Bool, ltb-true, lt-ltb, eqb-true, eq-eqb, and_parts, and_from, cond-true, cond-false}
 use Rattle.strength_order.specs.declared.TheConstants.{INPUT_LEVEL}
-use Rattle.path_meaning.specs.declared.switching.Switch.{Switch}
-use Rattle.path_meaning.specs.Graphs.{GraphData, nodes, level_of, place_at, is_storage_level, IsStorage}
-use Rattle.path_meaning.specs.Path.{Joins}
-use Rattle.path_meaning.proofs.PathLemmas.{place_inside}
+use Rattle.switch_paths.specs.declared.switching.Switch.{Switch}
+use Rattle.switch_paths.specs.Graphs.{GraphData, nodes, level_of, place_at, is_storage_level, IsStorage}
+use Rattle.switch_paths.specs.Path.{Joins}
+use Rattle.switch_paths.proofs.PathLemmas.{place_inside}
 use Rattle.group_meaning.specs.Groups.{AreJoined, LinksOver, AreLinked}
 use Rattle.group_meaning.proofs.LinkLemmas.{LinksOver-from, AreLinked-self, AreLinked-joined, AreLinked-trans, AreLinked-sym, AreLinked-from, AreLinked-to}
 

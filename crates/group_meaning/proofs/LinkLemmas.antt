@@ -1,8 +1,8 @@
 -- Linked storage nodes: a list of switches can be followed back, and another one after it.
 use Rattle.std.proofs.Common.{ℕ, inl, inr, List, [], ◌∷◌, ◌++◌, refl}
-use Rattle.path_meaning.specs.Graphs.{GraphData, IsStorage}
-use Rattle.path_meaning.specs.Path.{Joins}
-use Rattle.path_meaning.specs.declared.switching.Switch.{Switch}
+use Rattle.switch_paths.specs.Graphs.{GraphData, IsStorage}
+use Rattle.switch_paths.specs.Path.{Joins}
+use Rattle.switch_paths.specs.declared.switching.Switch.{Switch}
 use Rattle.group_meaning.specs.Groups.{AreJoined, LinksOver, AreLinked}
 use Rattle.group_meaning.specs.Laws.{LinkedIsAnEquivalence}
 

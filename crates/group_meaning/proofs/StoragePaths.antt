@@ -7,9 +7,9 @@ use Rattle.std.proofs.lemmas.Bool.{cases_lt}
 use Rattle.std.proofs.lemmas.List.{take_at, take-take, take-append-drop}
 use Rattle.ternary.specs.declared.tern.Tern.{Tern}
 use Rattle.strength_order.specs.declared.TheConstants.{INPUT_LEVEL}
-use Rattle.path_meaning.specs.Graphs.{GraphData, IsWired, nodes, level_of, IsStorage}
-use Rattle.path_meaning.specs.Path.{Stand, Hop, at_root, IsBeaten, IsBlocked}
-use Rattle.path_meaning.proofs.PathLemmas.{switch_fits, level_fits, Hop-in_range, IsBeaten-by_level, Goes, Goes-here, Goes-back, Goes-from_unblocked}
+use Rattle.switch_paths.specs.Graphs.{GraphData, IsWired, nodes, level_of, IsStorage}
+use Rattle.switch_paths.specs.Path.{Stand, Hop, at_root, IsBeaten, IsBlocked}
+use Rattle.switch_paths.proofs.PathLemmas.{switch_fits, level_fits, Hop-in_range, IsBeaten-by_level, Goes, Goes-here, Goes-back, Goes-from_unblocked}
 use Rattle.group_meaning.specs.Groups.{LinksOver, AreLinked}
 use Rattle.group_meaning.specs.Laws.{StandsAt, UnblockedPathsRunOverStorage, UnblockedPathsStayInOneGroup, InputNodesAreReachedFromThemselves}
 use Rattle.group_meaning.proofs.LinkLemmas.{AreLinked-sym}

@@ -4,7 +4,7 @@
 -- lists of groups have the same ids, each list in ascending order, and are one.
 use Rattle.std.proofs.Common.{◌≡◌, ℕ, List, [], ◌∷◌, map, All, Contains, refl, sym, ap₂, subst, ◌∙◌, arith}
 use Rattle.std.proofs.lemmas.List.Elements.{All-head, All-tail, Contains-get_or}
-use Rattle.path_meaning.specs.Graphs.{GraphData}
+use Rattle.switch_paths.specs.Graphs.{GraphData}
 use Rattle.group_meaning.specs.Groups.{AreLinked, TouchesAny, Group, id_of, IsGroup, AreGroups}
 use Rattle.group_meaning.specs.Laws.{GroupsAreUnique}
 use Rattle.group_meaning.proofs.LinkLemmas.{AreLinked-sym, AreLinked-trans}

@@ -2,9 +2,9 @@
 -- After Bryant, Beatty, Brace, Cho and Sheffler, "COSMOS: A Compiled Simulator for MOS Circuits", 1987.
 use Rattle.std.specs.Prelude.{◌≡◌, ℕ, ◌<◌, ◌↔◌, ◌⊎◌, List, [], ◌∷◌, length, map, slice_index, All, Any, Contains, Some}
 use Rattle.std.specs.List.Sorted.{IsStrictlyIncreasing}
-use Rattle.path_meaning.specs.declared.switching.Switch.{Switch}
-use Rattle.path_meaning.specs.Graphs.{GraphData, IsStorage, place_at}
-use Rattle.path_meaning.specs.Path.{Joins}
+use Rattle.switch_paths.specs.declared.switching.Switch.{Switch}
+use Rattle.switch_paths.specs.Graphs.{GraphData, IsStorage, place_at}
+use Rattle.switch_paths.specs.Path.{Joins}
 
 -- the switch at a place has one end at each of the two nodes, whatever its state
 pub record AreJoined (g : GraphData) (place m n : ℕ) : Type 0 where

@@ -3,8 +3,8 @@
 use Rattle.std.specs.Prelude.{◌≡◌, ℕ, ◌<◌, List, [], ◌++◌, length}
 use Rattle.ternary.specs.declared.tern.Tern.{Tern}
 use Rattle.strength_order.specs.declared.TheConstants.{INPUT_LEVEL}
-use Rattle.path_meaning.specs.Graphs.{GraphData, IsWired, level_of, IsStorage}
-use Rattle.path_meaning.specs.Path.{Stand, LivePath, IsBlocked}
+use Rattle.switch_paths.specs.Graphs.{GraphData, IsWired, level_of, IsStorage}
+use Rattle.switch_paths.specs.Path.{Stand, LivePath, IsBlocked}
 use Rattle.group_meaning.specs.Groups.{AreLinked, Group, AreGroups}
 
 -- the path with these hops stands there at some time, after so many hops

@@ -1,7 +1,7 @@
 -- The lines of a report, one after another: the line of a group that is passed stands before those of the groups after it.
 use Rattle.std.proofs.Common.{◌≡◌, ℕ, ◌+◌, ◌<◌, List, ◌∷◌, ◌++◌, length, get_or, take, drop, Option, sym, ap, subst, ◌∙◌}
 use Rattle.std.proofs.lemmas.List.{drop_more}
-use Rattle.port_edge.specs.Sending.{Sends}
+use Rattle.ports.specs.Sending.{Sends}
 use Rattle.group_meaning.specs.Groups.{Group}
 use Rattle.netlist.specs.Circuits.{CircuitData}
 use Rattle.group_report.specs.Report.{line_of, line_with, lines_from}

@@ -6,7 +6,7 @@ use Rattle.std.proofs.lemmas.List.{take_more, take-append-drop, length-take-le, 
 use Rattle.std.proofs.lemmas.List.Sums.{fails_before_first}
 use Rattle.indexmap.specs.IndexMap.{Updates}
 use Rattle.first_places.proofs.PlaceLemmas.{position-front, position-push}
-use Rattle.path_meaning.specs.Graphs.{GraphData}
+use Rattle.switch_paths.specs.Graphs.{GraphData}
 use Rattle.group_meaning.specs.Groups.{Group}
 use Rattle.group_text.specs.Texts.{GroupTextData, size_fault, text_of_group}
 use Rattle.group_text.specs.Compared.{same_text, same_text_decides}

@@ -3,14 +3,14 @@
 -- Extracted Hierarchy", 1988.
 use Rattle.std.specs.Prelude.{◌≡◌, ℕ, Bool, ◌+◌, ◌&&◌, List, [], ◌∷◌, ◌++◌, length, map, position, is_none, Option, None, option_map, Result, Ok, Err, if◌then◌else◌}
 use Rattle.std.specs.Io.KnownBytes.{append_known}
-use Rattle.port_edge.specs.declared.ports.PortFault.{PortFault}
-use Rattle.port_edge.specs.Sending.{WritesPart}
-use Rattle.path_meaning.specs.Graphs.{GraphData}
+use Rattle.ports.specs.declared.ports.PortFault.{PortFault}
+use Rattle.ports.specs.Sending.{WritesPart}
+use Rattle.switch_paths.specs.Graphs.{GraphData}
 use Rattle.netlist.specs.Circuits.{CircuitData, called}
 use Rattle.group_meaning.specs.Groups.{Group, AreGroups}
 use Rattle.group_text.specs.Texts.{GroupTextData, size_fault, text_of_group}
 use Rattle.group_text.specs.Compared.{same_text}
-use Rattle.wave_print.specs.Lines.{group_line_of}
+use Rattle.printed_lines.specs.Lines.{group_line_of}
 
 -- the group isn't too large to have a text
 abbrev pub has_text : Group → Bool

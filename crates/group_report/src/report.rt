@@ -1,11 +1,11 @@
 ghost use Rattle.std.specs.Prelude.{◌≡◌, ◌<◌, ◌++◌, map, Some, All, IfOk, OnOk, OnErr};
 ghost use Rattle.std.specs.Io.KnownBytes.{append_known};
-ghost use Rattle.port_edge.specs.Ports.{RefusedOnce, faults_after};
-ghost use Rattle.port_edge.specs.Sending.{WritesPart};
-ghost use Rattle.path_meaning.specs.Graphs.{nodes};
+ghost use Rattle.ports.specs.Ports.{RefusedOnce, faults_after};
+ghost use Rattle.ports.specs.Sending.{WritesPart};
+ghost use Rattle.switch_paths.specs.Graphs.{nodes};
 ghost use Rattle.group_meaning.specs.Groups.{AreGroups, IsGroup, id_of};
 ghost use Rattle.channel_groups.specs.Grouping.{IsId};
-ghost use Rattle.wave_print.specs.Lines.{names_after};
+ghost use Rattle.printed_lines.specs.Lines.{names_after};
 ghost use Rattle.group_report.specs.Report.{Reports, line_with, lines_of};
 ghost use Rattle.netlist.specs.Circuits.{called};
 ghost use Rattle.group_report.specs.Noted.{NotesGroup, NotesText, noted_number, number_at};
@@ -14,12 +14,12 @@ use channel_groups::{Group, GroupId, Groups};
 use group_text::{GroupText, TextFault, text_of};
 use indexmap::IndexMap;
 use netlist::Circuit;
-use path_meaning::Graph;
-use port_edge::{PortFault, Sink, send};
+use ports::{PortFault, Sink, send};
+use printed_lines::{GROUP_START_ROOM, LineBuf, group_name, group_start, line_end};
 use std::alloc::Global;
+use switch_paths::Graph;
 use table_keys::TableKeys;
 use ternary::NoMemory;
-use wave_print::{GROUP_START_ROOM, LineBuf, group_name, group_start, line_end};
 
 /// Writes the report of a circuit's groups: a line for each, numbered from 1 in order of their
 /// least nodes.

@@ -7,10 +7,10 @@ use Rattle.std.specs.List.{flat_map}
 use Rattle.std.proofs.lemmas.List.{get_or_default}
 use Rattle.ternary.specs.declared.tern.Tern.{Tern}
 use Rattle.strength_order.specs.declared.TheConstants.{INPUT_LEVEL}
-use Rattle.path_meaning.specs.declared.switching.Switch.{Switch}
-use Rattle.path_meaning.specs.Switching.{state_at}
-use Rattle.path_meaning.specs.Graphs.{GraphData, IsWired, level_of, place_at}
-use Rattle.path_meaning.specs.Step.{IsResponse}
+use Rattle.switch_paths.specs.declared.switching.Switch.{Switch}
+use Rattle.switch_paths.specs.Switching.{state_at}
+use Rattle.switch_paths.specs.Graphs.{GraphData, IsWired, level_of, place_at}
+use Rattle.switch_paths.specs.Step.{IsResponse}
 use Rattle.group_meaning.specs.Groups.{Group}
 use Rattle.group_meaning.proofs.GroupLemmas.{member_or_input, member_storage}
 use Rattle.group_text.specs.Texts.{GroupTextData, constant_of, firsts, terminals_of, local_nodes, local_switch, local_graph, local_state, text_of_group}

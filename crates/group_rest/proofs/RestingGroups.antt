@@ -7,11 +7,11 @@ use Rattle.std.proofs.lemmas.Bool.{cases_lt}
 use Rattle.std.proofs.lemmas.List.{length-map, get_or_default}
 use Rattle.std.proofs.lemmas.List.Elements.{Contains-get_or}
 use Rattle.ternary.specs.declared.tern.Tern.{Tern}
-use Rattle.path_meaning.specs.Switching.{state_at, state_by, switch_state_at}
-use Rattle.path_meaning.specs.Graphs.{GraphData, IsWired}
-use Rattle.path_meaning.specs.Step.{IsResponse, IsStep}
-use Rattle.path_meaning.specs.Laws.{SameSwitches}
-use Rattle.path_meaning.proofs.RestingSteps.{steps_rest}
+use Rattle.switch_paths.specs.Switching.{state_at, state_by, switch_state_at}
+use Rattle.switch_paths.specs.Graphs.{GraphData, IsWired}
+use Rattle.switch_paths.specs.Step.{IsResponse, IsStep}
+use Rattle.switch_paths.specs.Laws.{SameSwitches}
+use Rattle.switch_paths.proofs.RestingSteps.{steps_rest}
 use Rattle.group_meaning.specs.Groups.{Group, IsGroup}
 use Rattle.group_text.specs.Texts.{local_nodes, local_state, local_graph}
 use Rattle.group_text.proofs.LocalNodes.{member_at, members_within, gate_local}
@@ -19,7 +19,7 @@ use Rattle.group_text.proofs.LocalEdges.{state_local, switch_state_local, copy_o
 use Rattle.group_text.proofs.WellFormedTexts.{local_wired}
 use Rattle.group_text.proofs.Locality.{responses}
 use Rattle.group_rest.specs.Rest.{Reads, Rests, Responded, ReadsNoChange, UnreadGroupsRest}
-use Rattle.path_meaning.proofs.InputNodes.{input_response}
+use Rattle.switch_paths.proofs.InputNodes.{input_response}
 use Rattle.group_rest.proofs.ReadNodes.{outside_read}
 
 module _

@@ -2,7 +2,7 @@
 -- After Beatty and Bryant, "Fast Incremental Circuit Analysis Using Extracted Hierarchy", 1988.
 use Rattle.std.specs.Prelude.{◌≡◌, ℕ, ◌↔◌, List, Contains}
 use Rattle.ternary.specs.declared.tern.Tern.{Tern}
-use Rattle.path_meaning.specs.Graphs.{GraphData, IsWired, level_of, place_at}
+use Rattle.switch_paths.specs.Graphs.{GraphData, IsWired, level_of, place_at}
 use Rattle.group_meaning.specs.Groups.{Group, IsGroup}
 use Rattle.group_text.specs.Texts.{text_of_group, local_nodes}
 use Rattle.group_rest.specs.Rest.{Reads, Rests}

@@ -10,9 +10,9 @@ use Rattle.std.proofs.lemmas.List.Elements.{Contains-get_or}
 use Rattle.ternary.specs.declared.tern.Tern.{Tern}
 use Rattle.ternary.specs.declared.tern.Tern.TheVariants.{Zero}
 use Rattle.strength_order.specs.declared.TheConstants.{INPUT_LEVEL}
-use Rattle.path_meaning.specs.declared.switching.Switch.{Switch}
-use Rattle.path_meaning.specs.Switching.{state_at, state_by, switch_state_at}
-use Rattle.path_meaning.specs.Graphs.{GraphData, nodes, level_of, place_at}
+use Rattle.switch_paths.specs.declared.switching.Switch.{Switch}
+use Rattle.switch_paths.specs.Switching.{state_at, state_by, switch_state_at}
+use Rattle.switch_paths.specs.Graphs.{GraphData, nodes, level_of, place_at}
 use Rattle.group_meaning.specs.Groups.{Group, IsGroup}
 use Rattle.group_text.specs.Texts.{local_nodes, local_of, local_switch, local_graph, local_state}
 use Rattle.group_text.proofs.LocalNodes.{local_of-inside, local_of-stands, members_within, member_at}

@@ -2,12 +2,12 @@
 use Rattle.std.proofs.Common.{◌≡◌, ℕ, min, List, refl, sym, ap, ◌∙◌}
 use Rattle.std.specs.Prelude.{slice_index, Contains, ◌&&◌}
 use Rattle.ternary.specs.declared.tern.Tern.{Tern}
-use Rattle.path_meaning.specs.declared.switching.Switch.{Switch}
-use Rattle.path_meaning.specs.declared.switching.SwitchState.{SwitchState}
-use Rattle.path_meaning.specs.Switching.{is_closed, is_live, switch_state_at}
-use Rattle.path_meaning.specs.Graphs.{GraphData, IsWired}
-use Rattle.path_meaning.specs.Path.{Stand, Joins, Hop, at_root}
-use Rattle.path_meaning.proofs.PathLemmas.{same_stand}
+use Rattle.switch_paths.specs.declared.switching.Switch.{Switch}
+use Rattle.switch_paths.specs.declared.switching.SwitchState.{SwitchState}
+use Rattle.switch_paths.specs.Switching.{is_closed, is_live, switch_state_at}
+use Rattle.switch_paths.specs.Graphs.{GraphData, IsWired}
+use Rattle.switch_paths.specs.Path.{Stand, Joins, Hop, at_root}
+use Rattle.switch_paths.proofs.PathLemmas.{same_stand}
 use Rattle.group_meaning.specs.Groups.{Group, IsGroup}
 use Rattle.group_meaning.proofs.LinkLemmas.{Joins-sym}
 use Rattle.group_text.specs.Texts.{local_nodes, local_of, local_switch, local_graph, local_state}

@@ -9,9 +9,9 @@ use Rattle.std.proofs.lemmas.List.Elements.{All-weaker, All-head, All-tail, Cont
 use Rattle.std.proofs.lemmas.List.Kept.{AllPairs-cons, AllPairs-filter, AllPairs-from_increasing}
 use Rattle.std.proofs.lemmas.List.Sums.{fails_before_first, passes_at_first}
 use Rattle.list_facts.proofs.ContainsLemmas.{Contains-cons_cases, Contains-cons_first, Contains-cons_later, Contains-filter, Contains-from_filter}
-use Rattle.path_meaning.specs.declared.switching.Switch.{Switch}
-use Rattle.path_meaning.specs.Graphs.{GraphData, place_at}
-use Rattle.path_meaning.specs.Path.{Joins}
+use Rattle.switch_paths.specs.declared.switching.Switch.{Switch}
+use Rattle.switch_paths.specs.Graphs.{GraphData, place_at}
+use Rattle.switch_paths.specs.Path.{Joins}
 use Rattle.group_meaning.specs.Groups.{Group, IsGroup}
 use Rattle.group_text.specs.Texts.{firsts, terminals_of, local_nodes, local_of}
 

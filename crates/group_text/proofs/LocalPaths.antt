@@ -7,10 +7,10 @@ use Rattle.std.proofs.Common.{◌≡◌, ℕ, ◌<◌, ◌≤◌, true, inl, inr
 use Rattle.std.specs.Prelude.{slice_index, Contains}
 use Rattle.std.proofs.lemmas.Bool.{cases_lt}
 use Rattle.ternary.specs.declared.tern.Tern.{Tern}
-use Rattle.path_meaning.specs.Graphs.{GraphData, IsWired, level_of}
-use Rattle.path_meaning.specs.Path.{Stand, Joins, Hop, Leads, at_root, LivePath}
-use Rattle.path_meaning.proofs.PathLemmas.{switch_fits, Leads-definite}
-use Rattle.path_meaning.proofs.StrongestPaths.{surely, IsBest}
+use Rattle.switch_paths.specs.Graphs.{GraphData, IsWired, level_of}
+use Rattle.switch_paths.specs.Path.{Stand, Joins, Hop, Leads, at_root, LivePath}
+use Rattle.switch_paths.proofs.PathLemmas.{switch_fits, Leads-definite}
+use Rattle.switch_paths.proofs.StrongestPaths.{surely, IsBest}
 use Rattle.group_meaning.specs.Groups.{Group, IsGroup}
 use Rattle.group_meaning.proofs.LinkLemmas.{Joins-sym}
 use Rattle.group_meaning.proofs.GroupLemmas.{switch_of_member}

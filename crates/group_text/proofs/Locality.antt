@@ -8,12 +8,12 @@ use Rattle.std.specs.Prelude.{slice_index, Contains, ◌↔◌}
 use Rattle.std.proofs.lemmas.List.Elements.{Contains-get_or}
 use Rattle.ternary.specs.declared.tern.Tern.{Tern}
 use Rattle.ternary.specs.Tern.{may_one, may_zero}
-use Rattle.path_meaning.specs.Switching.{state_at}
-use Rattle.path_meaning.specs.Graphs.{GraphData, IsWired, nodes, level_of, IsStorage}
-use Rattle.path_meaning.specs.Path.{Stand, Joins, Hop, at_root, IsBeaten, Reaches}
-use Rattle.path_meaning.specs.Step.{Responds}
-use Rattle.path_meaning.proofs.PathLemmas.{same_stand, Goes, Goes-here, Goes-from_Reaches, Reaches-from_Goes}
-use Rattle.path_meaning.proofs.StrongestPaths.{IsBest, best_table, unbeaten-from_best, best-from_unbeaten}
+use Rattle.switch_paths.specs.Switching.{state_at}
+use Rattle.switch_paths.specs.Graphs.{GraphData, IsWired, nodes, level_of, IsStorage}
+use Rattle.switch_paths.specs.Path.{Stand, Joins, Hop, at_root, IsBeaten, Reaches}
+use Rattle.switch_paths.specs.Step.{Responds}
+use Rattle.switch_paths.proofs.PathLemmas.{same_stand, Goes, Goes-here, Goes-from_Reaches, Reaches-from_Goes}
+use Rattle.switch_paths.proofs.StrongestPaths.{IsBest, best_table, unbeaten-from_best, best-from_unbeaten}
 use Rattle.group_meaning.specs.Groups.{Group, IsGroup}
 use Rattle.group_meaning.proofs.LinkLemmas.{Joins-sym}
 use Rattle.group_meaning.proofs.StoragePaths.{hop_to_storage}

@@ -5,9 +5,9 @@ use Rattle.std.proofs.lemmas.List.{length-map}
 use Rattle.std.proofs.lemmas.List.Elements.{All-weaker, All-contains_itself, All-map, All-append, All-replicate, Contains-get_or}
 use Rattle.strength_order.specs.declared.TheConstants.{INPUT_LEVEL}
 use Rattle.strength_order.specs.Levels.{IsLevel}
-use Rattle.path_meaning.specs.declared.switching.Switch.{Switch}
-use Rattle.path_meaning.specs.Graphs.{GraphData, IsWired, Fits, FitsPlace, level_of, place_at, IsStorage}
-use Rattle.path_meaning.proofs.PathLemmas.{switch_fits, level_fits}
+use Rattle.switch_paths.specs.declared.switching.Switch.{Switch}
+use Rattle.switch_paths.specs.Graphs.{GraphData, IsWired, Fits, FitsPlace, level_of, place_at, IsStorage}
+use Rattle.switch_paths.proofs.PathLemmas.{switch_fits, level_fits}
 use Rattle.group_meaning.specs.Groups.{Group, IsGroup}
 use Rattle.group_meaning.proofs.GroupLemmas.{member_storage}
 use Rattle.group_text.specs.Texts.{constant_of, local_nodes, local_switch, local_graph}

@@ -12,11 +12,11 @@ use Rattle.std.proofs.lemmas.Bool.Decides.{Decides-eqb, Decides-and, Decides-lik
 use Rattle.ternary.specs.declared.tern.Tern.{Tern}
 use Rattle.ternary.specs.contracts.tern.TernPartialEq.TheImpl as tern
 use Rattle.ternary.specs.declared.tern.Tern.TheVariants.{Zero, One, Unk}
-use Rattle.path_meaning.specs.declared.switching.Switch.{Switch}
-use Rattle.path_meaning.specs.declared.switching.SwitchKind.{SwitchKind}
-use Rattle.path_meaning.specs.declared.switching.SwitchKind.TheVariants.{NChan, PChan, Always}
-use Rattle.path_meaning.specs.Graphs.{nodes}
-use Rattle.path_meaning.specs.Compared.{same_graph, same_graph_decides, options_decide, equivalence_of}
+use Rattle.switch_paths.specs.declared.switching.Switch.{Switch}
+use Rattle.switch_paths.specs.declared.switching.SwitchKind.{SwitchKind}
+use Rattle.switch_paths.specs.declared.switching.SwitchKind.TheVariants.{NChan, PChan, Always}
+use Rattle.switch_paths.specs.Graphs.{nodes}
+use Rattle.switch_paths.specs.Compared.{same_graph, same_graph_decides, options_decide, equivalence_of}
 use Rattle.group_text.specs.Texts.{GroupTextData}
 
 -- two states are one

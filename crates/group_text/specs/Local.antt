@@ -1,7 +1,7 @@
 -- What the making of a local graph asks of a group.
 use Rattle.std.specs.Prelude.{◌≡◌, ℕ, ◌<◌, List, length, Contains, Some}
-use Rattle.path_meaning.specs.declared.switching.Switch.{Switch}
-use Rattle.path_meaning.specs.Graphs.{GraphData, place_at}
+use Rattle.switch_paths.specs.declared.switching.Switch.{Switch}
+use Rattle.switch_paths.specs.Graphs.{GraphData, place_at}
 
 -- the nodes at the terminals of a switch are among these
 pub record AreAmong (nodes : List ℕ) (switch : Switch) : Type 0 where

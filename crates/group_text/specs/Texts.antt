@@ -5,14 +5,14 @@ use Rattle.std.specs.List.{flat_map}
 use Rattle.ternary.specs.declared.tern.Tern.{Tern}
 use Rattle.ternary.specs.declared.tern.Tern.TheVariants.{Zero, One}
 use Rattle.strength_order.specs.declared.TheConstants.{INPUT_LEVEL}
-use Rattle.path_meaning.specs.declared.switching.Switch.{Switch}
-use Rattle.path_meaning.specs.Switching.{state_at}
-use Rattle.path_meaning.specs.Graphs.{GraphData, IsWired, nodes, level_of, place_at, IsStorage}
+use Rattle.switch_paths.specs.declared.switching.Switch.{Switch}
+use Rattle.switch_paths.specs.Switching.{state_at}
+use Rattle.switch_paths.specs.Graphs.{GraphData, IsWired, nodes, level_of, place_at, IsStorage}
 use Rattle.group_meaning.specs.Groups.{Group}
 use Rattle.group_text.specs.declared.text.TheConstants.{MOST_MEMBERS, MOST_SWITCHES}
 use Rattle.group_text.specs.declared.text.TextFault.{TextFault}
 use Rattle.group_text.specs.declared.text.TextFault.TheVariants.{GroupNodes, GroupSwitches}
-use Rattle.path_meaning.specs.declared.TheConstants.{GND, VDD}
+use Rattle.switch_paths.specs.declared.TheConstants.{GND, VDD}
 
 -- a text as contracts see it: the local graph, how many of its nodes are members, and the constant of each
 -- local node that is a rail

@@ -7,8 +7,8 @@ ghost use Rattle.std.specs.Prelude.{◌≡◌, ◌↔◌, ◌≤◌, IsTrue, map
 ghost use Rattle.group_text.specs.Compared.{constant_code, kind_code, node_word, place_words, same_text, same_text_equivalence, text_writes, text_writes-same, words_writes};
 
 use crate::text::GroupText;
-use path_meaning::{Graph, Switch, SwitchKind};
 use std::hash::{Hash, Hasher};
+use switch_paths::{Graph, Switch, SwitchKind};
 use ternary::Tern;
 
 impl PartialEq for GroupText {

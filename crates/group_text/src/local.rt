@@ -2,14 +2,14 @@
 
 ghost use Rattle.std.specs.Prelude.{◌≡◌, ℕ, ◌<◌, ◌≤◌, ◌++◌, ◌-◌, [], All, Contains, IfOk, OnOk, nat_eq, length, map, replicate, option_map};
 ghost use Rattle.indexmap.specs.IndexSet.{insert_all};
-ghost use Rattle.path_meaning.specs.Graphs.{nodes, level_of, place_at, Fits};
+ghost use Rattle.switch_paths.specs.Graphs.{nodes, level_of, place_at, Fits};
 ghost use Rattle.group_text.specs.Texts.{local_nodes, local_of, local_switch, terminals_of};
 ghost use Rattle.group_text.specs.Local.{AreAmong, StandsAmong};
 
 use indexmap::IndexSet;
-use path_meaning::{Graph, Switch};
 use std::alloc::{AllocError, Global};
 use strength_order::INPUT_LEVEL;
+use switch_paths::{Graph, Switch};
 use ternary::NoMemory;
 
 /// The nodes that the local nodes of a group stand for: its members, then the outside nodes in the

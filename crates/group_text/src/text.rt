@@ -1,13 +1,13 @@
 ghost use Rattle.std.specs.Prelude.{◌≡◌, ◌<◌, ◌≤◌, ◌⊎◌, length, map, None, Some, slice_index_or, IfOk, IfErr, OnOk};
-ghost use Rattle.path_meaning.specs.Graphs.{nodes};
+ghost use Rattle.switch_paths.specs.Graphs.{nodes};
 ghost use Rattle.group_meaning.specs.Groups.{IsGroup};
 ghost use Rattle.group_text.specs.Texts.{IsText, constant_of, local_nodes, size_fault, text_of_group};
 ghost use Rattle.group_text.specs.declared.text.TextFault.TheVariants.{NoMemory};
 
 use crate::local::{collect_nodes, local_graph};
-use path_meaning::{GND, Graph, VDD, graphs_are_wired};
 use std::alloc::Global;
 use std::marker::Model;
+use switch_paths::{GND, Graph, VDD, graphs_are_wired};
 use ternary::{NoMemory, Tern};
 
 /// The most members of a group whose text is made.

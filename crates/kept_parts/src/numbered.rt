@@ -9,8 +9,8 @@ ghost use Rattle.kept_parts.specs.Uses.{texts_used};
 use crate::uses::TextUses;
 use channel_groups::{GroupId, Groups};
 use circuit_texts::{BuildFault, text_or_fault};
-use path_meaning::Graph;
 use std::alloc::{AllocError, Global};
+use switch_paths::Graph;
 use table_keys::TableKeys;
 
 /// The text of each of some groups, and for each of them the nodes that the text's local nodes stand for.

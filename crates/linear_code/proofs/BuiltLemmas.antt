@@ -9,7 +9,7 @@ use Rattle.std.proofs.lemmas.Simd.{map-map}
 use Rattle.strength_order.specs.declared.TheConstants.{INPUT_LEVEL}
 use Rattle.ternary.specs.declared.tern.Tern.{Tern}
 use Rattle.ternary.specs.declared.tern.Tern.TheVariants.{Unk}
-use Rattle.path_meaning.specs.Graphs.{GraphData, nodes, level_of}
+use Rattle.switch_paths.specs.Graphs.{GraphData, nodes, level_of}
 use Rattle.straight_code.specs.declared.code.Instruction.{Instruction}
 use Rattle.straight_code.specs.declared.code.Output.{Output}
 use Rattle.straight_code.specs.declared.part.Part.{Part}

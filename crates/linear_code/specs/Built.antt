@@ -3,7 +3,7 @@ use Rattle.std.specs.Prelude.{◌≡◌, ℕ, List, length, map, sum, nat_lt, sl
 use Rattle.ternary.specs.declared.tern.Tern.{Tern}
 use Rattle.ternary.specs.declared.tern.Tern.TheVariants.{Unk}
 use Rattle.strength_order.specs.declared.TheConstants.{INPUT_LEVEL}
-use Rattle.path_meaning.specs.Graphs.{GraphData, nodes}
+use Rattle.switch_paths.specs.Graphs.{GraphData, nodes}
 use Rattle.straight_code.specs.declared.part.Part.{Part}
 use Rattle.straight_code.specs.Code.{code_value}
 use Rattle.straight_code.specs.Parts.{IsMemberAt, mapped}

@@ -2,7 +2,7 @@
 -- After Bryant, Beatty, Brace, Cho and Sheffler, "COSMOS: A Compiled Simulator for MOS Circuits", 1987.
 use Rattle.std.specs.Prelude.{◌≡◌, ℕ, ◌<◌, Bool, false, List, [], length, take, count_by, All, Some, slice_get, slice_index_or, if◌then◌else◌}
 use Rattle.ternary.specs.declared.tern.Tern.{Tern}
-use Rattle.path_meaning.specs.Switching.{state_at}
+use Rattle.switch_paths.specs.Switching.{state_at}
 use Rattle.straight_code.specs.declared.code.Operand.TheVariants.{Constant}
 use Rattle.straight_code.specs.declared.code.Instruction.{Instruction}
 use Rattle.straight_code.specs.declared.code.Output.{Output}

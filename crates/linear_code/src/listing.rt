@@ -1,6 +1,6 @@
 ghost use Rattle.std.specs.Prelude.{◌≡◌, ℕ, ◌<◌, ◌^◌, length, map, nat_lt, slice_get, All, IfOk, OnOk, Some};
 ghost use Rattle.strength_order.specs.declared.TheConstants.{INPUT_LEVEL};
-ghost use Rattle.path_meaning.specs.Graphs.{nodes};
+ghost use Rattle.switch_paths.specs.Graphs.{nodes};
 ghost use Rattle.straight_code.specs.Code.{results, IsAllowed, AreAllowed, IsOutput, IsCode};
 ghost use Rattle.linear_code.specs.Listing.{IsListing, IsListingStep};
 ghost use Rattle.line_words.specs.Visible.{IsVisibleName};
@@ -8,11 +8,11 @@ ghost use Rattle.straight_code.specs.Parts.{IsPart, AreMembers};
 ghost use Rattle.linear_code.specs.Built.{IsBuilt};
 ghost use Rattle.linear_code.specs.Moved.{moved_operand, moved_instruction, moved_output, AddsPart, AreNexts};
 
-use path_meaning::Graph;
 use std::alloc::{AllocError, Global};
 use std::marker::Model;
 use straight_code::{Instruction, Operand, Output, Part, instruction_value, output_state};
 use strength_order::INPUT_LEVEL;
+use switch_paths::Graph;
 use ternary::{NoMemory, Tern};
 
 /// A node of a listing.

@@ -4,7 +4,7 @@ use Rattle.std.specs.Prelude.{Contains, OnOk, slice_index_or, slice_set}
 use Rattle.std.proofs.lemmas.Bool.{cases_eq}
 use Rattle.std.proofs.lemmas.List.{get_or-set_same, get_or-set_other, get_or_past, length-set, length_push}
 use Rattle.std.proofs.lemmas.List.Elements.{Contains-push, Contains-push_cases, Contains-append_left}
-use Rattle.machine_parts.specs.declared.part.HeldPart.{HeldPart}
+use Rattle.machine_parts.specs.declared.part.MachinePart.{MachinePart}
 use Rattle.machine_parts.specs.Parts.{Stands, HasMember, AreApart}
 use Rattle.machine_laws.specs.Machines.{MachineData}
 use Rattle.machine_parts.specs.Marking.{IsMarked}
@@ -62,7 +62,7 @@ Clears-start m = Clears-same [] m (λ k node (i, inside, here) has. omega (arith
 -- a tidy machine is tidy after a part lost its group
 IsTidy-vacated : (k : ℕ) (old new : MachineData) → k < length old.parts → Vacates k old new → IsTidy old → IsTidy new
 IsTidy-vacated k old new inside vacates tidy =
-    let back = λ (l : ℕ) (part : HeldPart) (stands : Stands new.parts l part). subst (λ list. Stands list l part) vacates.parts stands in
+    let back = λ (l : ℕ) (part : MachinePart) (stands : Stands new.parts l part). subst (λ list. Stands list l part) vacates.parts stands in
     record {
       counted = ap length vacates.uses ∙ length-set old.uses k None ∙ tidy.counted ∙ sym (length-set old.parts k vacates.part) ∙ sym (ap length vacates.parts);
       textless = λ l part stands lacks.
@@ -79,7 +79,7 @@ IsTidy-vacated k old new inside vacates tidy =
           elim (cases_eq l k) [
             | inl same ↦
                 let is = Stands-same old.parts k vacates.part inside part (subst (λ n. Stands (slice_set old.parts k vacates.part) n part) same (back l part stands)) in
-                ap (λ (one : HeldPart). one.reads.items) is ∙ vacates.none.reads
+                ap (λ (one : MachinePart). one.reads.items) is ∙ vacates.none.reads
             | inr differs ↦ tidy.quiet l part (Stands-was old.parts k vacates.part inside l part differs (back l part stands)) none
           ];
     }
@@ -87,7 +87,7 @@ IsTidy-vacated k old new inside vacates tidy =
 -- and after a part came behind the others
 IsTidy-seated : (members : List ℕ) (old new : MachineData) → Seats members old new → IsTidy old → IsTidy new
 IsTidy-seated members old new seats tidy =
-    let cases = λ (l : ℕ) (part : HeldPart) (stands : Stands new.parts l part).
+    let cases = λ (l : ℕ) (part : MachinePart) (stands : Stands new.parts l part).
     Stands-cases old.parts seats.part l part (subst (λ list. Stands list l part) seats.parts stands) in
     record {
       counted = omega (arith, seats.more_uses, tidy.counted, ap length seats.parts, length_push old.parts seats.part);
@@ -99,7 +99,7 @@ IsTidy-seated members old new seats tidy =
       quiet = λ l part stands none.
           elim (cases l part stands) [
             | inl before ↦ tidy.quiet l part before none
-            | inr (last, is) ↦ ap (λ (one : HeldPart). one.reads.items) is ∙ seats.is_new.reads
+            | inr (last, is) ↦ ap (λ (one : MachinePart). one.reads.items) is ∙ seats.is_new.reads
           ];
     }
 
@@ -108,11 +108,11 @@ pub Clears-vacated : (node k : ℕ) (old new : MachineData) → AreApart old.par
     Clears (node ∷ []) old new
 Clears-vacated node k old new apart has vacates =
     let inside : k < length old.parts = has.stands.inside in
-    let back = λ (l : ℕ) (part : HeldPart) (stands : Stands new.parts l part). subst (λ list. Stands list l part) vacates.parts stands in
-    let not_k : (l : ℕ) (part : HeldPart) → Stands new.parts l part → 0 < part.members → l ≢ k =
+    let back = λ (l : ℕ) (part : MachinePart) (stands : Stands new.parts l part). subst (λ list. Stands list l part) vacates.parts stands in
+    let not_k : (l : ℕ) (part : MachinePart) → Stands new.parts l part → 0 < part.members → l ≢ k =
     λ l part stands some same.
     let is = Stands-same old.parts k vacates.part inside part (subst (λ n. Stands (slice_set old.parts k vacates.part) n part) same (back l part stands)) in
-    omega (arith, some, ap (λ (one : HeldPart). one.members) is, vacates.none.members) in
+    omega (arith, some, ap (λ (one : MachinePart). one.members) is, vacates.none.members) in
     record {
       was = λ l part stands some. Stands-was old.parts k vacates.part inside l part (not_k l part stands some) (back l part stands);
       uses = λ l part stands some.
@@ -173,10 +173,10 @@ module _ (nodes : List ℕ) (node : ℕ) (old mid new : MachineData) (first : Cl
 
 module _ (members : List ℕ) (old mid new : MachineData) (counted : length mid.marks ≡ length mid.parts) (clears : Clears members old mid)
     (seats : Seats members mid new) where
-  seated : (k : ℕ) (part : HeldPart) → Stands new.parts k part → Stands mid.parts k part ⊎ ((k ≡ length mid.parts) × (part ≡ seats.part))
+  seated : (k : ℕ) (part : MachinePart) → Stands new.parts k part → Stands mid.parts k part ⊎ ((k ≡ length mid.parts) × (part ≡ seats.part))
   seated k part stands = Stands-cases mid.parts seats.part k part (subst (λ list. Stands list k part) seats.parts stands)
 
-  inside_old : (k : ℕ) (part : HeldPart) → Stands old.parts k part → length mid.parts ≡ length old.parts → k < length mid.parts
+  inside_old : (k : ℕ) (part : MachinePart) → Stands old.parts k part → length mid.parts ≡ length old.parts → k < length mid.parts
   inside_old k part stands same = omega (arith, stands.inside, same)
 
   -- what is known is known with the part behind the others

@@ -12,11 +12,11 @@ use Rattle.std.proofs.lemmas.List.Sums.{sum_by-cons}
 use Rattle.std.proofs.lemmas.Map.Made.{IsDistinct-from_AllPairs}
 use Rattle.std.proofs.lemmas.Map.Keys.{IsDistinct-cons}
 use Rattle.list_facts.proofs.ContainsLemmas.{Contains-cons_cases, Contains-cons_first, Contains-cons_later, unlike}
-use Rattle.path_meaning.specs.Graphs.{GraphData}
+use Rattle.switch_paths.specs.Graphs.{GraphData}
 use Rattle.group_meaning.specs.Groups.{Group, AreGroups, id_of}
 use Rattle.group_meaning.proofs.MappedLists.{contains-map, contains-from_map}
 use Rattle.channel_groups.proofs.CountLemmas.{length-le_from_contained}
-use Rattle.machine_parts.specs.declared.part.HeldPart.{HeldPart}
+use Rattle.machine_parts.specs.declared.part.MachinePart.{MachinePart}
 use Rattle.machine_parts.specs.Parts.{Stands, HasMember, AreApart, has_members}
 use Rattle.machine_laws.specs.Seating.{one_of}
 use Rattle.machine_laws.specs.Fitting.{IsPartOf, HasPart}
@@ -24,21 +24,21 @@ use Rattle.machine_laws.proofs.PartGroups.{member_from_part}
 use Rattle.machine_laws.proofs.KeptLemmas.{group_there}
 
 -- the first member of a part
-abbrev first_of : HeldPart → ℕ
+abbrev first_of : MachinePart → ℕ
 first_of part = slice_index part.map.items 0
 
 -- the first members of the parts that have some
-abbrev firsts : List HeldPart → List ℕ
+abbrev firsts : List MachinePart → List ℕ
 firsts [] = []
 firsts (part ∷ parts) = if has_members part then first_of part ∷ firsts parts else firsts parts
 
-firsts_some : (part : HeldPart) (parts : List HeldPart) → has_members part ≡ true → firsts (part ∷ parts) ≡ first_of part ∷ firsts parts
+firsts_some : (part : MachinePart) (parts : List MachinePart) → has_members part ≡ true → firsts (part ∷ parts) ≡ first_of part ∷ firsts parts
 firsts_some part parts some = rw some refl
 
-firsts_none : (part : HeldPart) (parts : List HeldPart) → has_members part ≡ false → firsts (part ∷ parts) ≡ firsts parts
+firsts_none : (part : MachinePart) (parts : List MachinePart) → has_members part ≡ false → firsts (part ∷ parts) ≡ firsts parts
 firsts_none part parts none = rw none refl
 
-length-firsts : (parts : List HeldPart) → length (firsts parts) ≡ sum_by one_of parts
+length-firsts : (parts : List MachinePart) → length (firsts parts) ≡ sum_by one_of parts
 length-firsts [] = refl
 length-firsts (part ∷ parts) =
     elim (cases_Bool (has_members part)) [
@@ -51,22 +51,23 @@ length-firsts (part ∷ parts) =
     ]
 
 -- a part that passes the test has members
-has_some : (part : HeldPart) → has_members part ≡ true → 0 < part.members
+has_some : (part : MachinePart) → has_members part ≡ true → 0 < part.members
 has_some part is = ltb-true 0 part.members is
 
 -- a part behind the first one
-Stands-later : (first : HeldPart) (parts : List HeldPart) (k : ℕ) (part : HeldPart) → Stands parts k part → Stands (first ∷ parts) (suc k) part
+Stands-later : (first : MachinePart) (parts : List MachinePart) (k : ℕ) (part : MachinePart) → Stands parts k part →
+    Stands (first ∷ parts) (suc k) part
 Stands-later first parts k part stands = record { inside = omega (arith, stands.inside); here = stands.here }
 
 -- which has its first member
-record IsFirst (parts : List HeldPart) (n : ℕ) : Type 0 where
+record IsFirst (parts : List MachinePart) (n : ℕ) : Type 0 where
   pub k : ℕ
-  pub part : HeldPart
+  pub part : MachinePart
   pub stands : Stands parts k part
   pub some : 0 < part.members
   pub is : first_of part ≡ n
 
-from_firsts : (parts : List HeldPart) (n : ℕ) → Contains (firsts parts) n → IsFirst parts n
+from_firsts : (parts : List MachinePart) (n : ℕ) → Contains (firsts parts) n → IsFirst parts n
 from_firsts [] n there = absurd (omega (arith, there.1))
 from_firsts (part ∷ parts) n there =
     let later : Contains (firsts parts) n → IsFirst (part ∷ parts) n =
@@ -81,11 +82,11 @@ from_firsts (part ∷ parts) n there =
           ]
     ]
 
-in_firsts : (parts : List HeldPart) (k : ℕ) (part : HeldPart) → Stands parts k part → 0 < part.members → Contains (firsts parts) (first_of part)
+in_firsts : (parts : List MachinePart) (k : ℕ) (part : MachinePart) → Stands parts k part → 0 < part.members → Contains (firsts parts) (first_of part)
 in_firsts [] k part stands some = absurd (omega (arith, stands.inside))
 in_firsts (first ∷ parts) zero part stands some =
     let is : first ≡ part = stands.here in
-    subst (λ (one : HeldPart). Contains (firsts (first ∷ parts)) (first_of one)) is
+    subst (λ (one : MachinePart). Contains (firsts (first ∷ parts)) (first_of one)) is
     (subst (λ xs. Contains xs (first_of first)) (sym (firsts_some first parts (ap has_members is ∙ lt-ltb 0 part.members some)))
     (Contains-cons_first (first_of first) (firsts parts) (first_of first) refl))
 in_firsts (first ∷ parts) (suc k) part stands some =
@@ -96,19 +97,19 @@ in_firsts (first ∷ parts) (suc k) part stands some =
     ]
 
 -- each part with members has a first one
-abbrev AreFull : List HeldPart → Type 0
-AreFull parts = (k : ℕ) (part : HeldPart) → Stands parts k part → 0 < part.members → 0 < length part.map.items
+abbrev AreFull : List MachinePart → Type 0
+AreFull parts = (k : ℕ) (part : MachinePart) → Stands parts k part → 0 < part.members → 0 < length part.map.items
 
-first_member : (parts : List HeldPart) → AreFull parts → (k : ℕ) (part : HeldPart) → Stands parts k part → 0 < part.members →
+first_member : (parts : List MachinePart) → AreFull parts → (k : ℕ) (part : MachinePart) → Stands parts k part → 0 < part.members →
     HasMember parts k (first_of part)
 first_member parts full k part stands some =
     record { part = part; stands = stands; place = 0; member = record { inside = some; within = full k part stands some; here = refl } }
 
-member_later : (first : HeldPart) (parts : List HeldPart) (k node : ℕ) → HasMember parts k node → HasMember (first ∷ parts) (suc k) node
+member_later : (first : MachinePart) (parts : List MachinePart) (k node : ℕ) → HasMember parts k node → HasMember (first ∷ parts) (suc k) node
 member_later first parts k node has =
     record { part = has.part; stands = Stands-later first parts k has.part has.stands; place = has.place; member = has.member }
 
-firsts-distinct : (parts : List HeldPart) → AreFull parts → AreApart parts → IsDistinct nat_eq (firsts parts)
+firsts-distinct : (parts : List MachinePart) → AreFull parts → AreApart parts → IsDistinct nat_eq (firsts parts)
 unfolding IsDistinct
 firsts-distinct [] full apart = tt
 firsts-distinct (part ∷ parts) full apart =
@@ -131,9 +132,9 @@ firsts-distinct (part ∷ parts) full apart =
           (recursion_from_All (λ y. nat_eq (first_of part) y ≡ false) (firsts parts) (unlike (first_of part) (firsts parts) none_again)) tail)
     ]
 
-module _ (g : GraphData) (groups : List Group) (are : AreGroups g groups) (parts : List HeldPart)
+module _ (g : GraphData) (groups : List Group) (are : AreGroups g groups) (parts : List MachinePart)
     (each : (i : ℕ) (group : Group) → slice_get groups i ≡ Some group → HasPart g parts group)
-    (whole : (k : ℕ) (part : HeldPart) → Stands parts k part → 0 < part.members → (group : Group) × IsPartOf g group part)
+    (whole : (k : ℕ) (part : MachinePart) → Stands parts k part → 0 < part.members → (group : Group) × IsPartOf g group part)
     (apart : AreApart parts) where
   full : AreFull parts
   full k part stands some =
@@ -141,7 +142,7 @@ module _ (g : GraphData) (groups : List Group) (are : AreGroups g groups) (parts
       omega (arith, length-take part.members part.map.items, ap length is_part.members, is_part.is_group.some)
 
   -- the first member of a group's part is the group's least node
-  first_is_id : (group : Group) (part : HeldPart) (k : ℕ) → Stands parts k part → 0 < part.members → IsPartOf g group part → id_of group ≡ first_of part
+  first_is_id : (group : Group) (part : MachinePart) (k : ℕ) → Stands parts k part → 0 < part.members → IsPartOf g group part → id_of group ≡ first_of part
   first_is_id group part k stands some is_part =
       member_from_part g group part is_part 0 (first_of part) (record { inside = some; within = full k part stands some; here = refl })
 

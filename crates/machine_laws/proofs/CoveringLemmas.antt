@@ -7,10 +7,10 @@ use Rattle.std.proofs.lemmas.List.{length-append, length-replicate, length-set, 
 use Rattle.std.proofs.lemmas.Option.{slice_get_within, get_or_from_slice_get, slice_get_read}
 use Rattle.ternary.specs.declared.tern.Tern.{Tern}
 use Rattle.ternary.specs.declared.tern.Tern.TheVariants.{Unk, Zero}
-use Rattle.path_meaning.specs.Switching.{state_at}
-use Rattle.path_meaning.specs.Graphs.{GraphData, IsWired, IsStorage, nodes}
-use Rattle.path_meaning.specs.Step.{IsResponse}
-use Rattle.path_meaning.proofs.PathLemmas.{switch_fits}
+use Rattle.switch_paths.specs.Switching.{state_at}
+use Rattle.switch_paths.specs.Graphs.{GraphData, IsWired, IsStorage, nodes}
+use Rattle.switch_paths.specs.Step.{IsResponse}
+use Rattle.switch_paths.proofs.PathLemmas.{switch_fits}
 use Rattle.group_meaning.specs.Groups.{Group, IsGroup, AreGroups, id_of}
 use Rattle.group_meaning.proofs.UniqueGroups.{id_member, same_by_member}
 use Rattle.group_meaning.proofs.GroupLemmas.{member_storage}
@@ -24,7 +24,7 @@ use Rattle.group_rest.specs.Alike.{IsAlike}
 use Rattle.group_rest.specs.Rest.{Reads, Rests}
 use Rattle.group_rest.proofs.AlikeGroups.{alike_groups_have_one_text, alike_groups_rest_alike}
 use Rattle.group_rest.proofs.RestingGroups.{unread_group_rests}
-use Rattle.machine_parts.specs.declared.part.HeldPart.{HeldPart}
+use Rattle.machine_parts.specs.declared.part.MachinePart.{MachinePart}
 use Rattle.machine_parts.specs.Parts.{Stands, IsMemberAt, HasMember, IsStale, AreApart}
 use Rattle.machine_laws.specs.Machines.{MachineData, groups_in}
 use Rattle.machine_parts.specs.Marking.{IsMarked}
@@ -49,7 +49,7 @@ use Rattle.machine_laws.proofs.CountingLemmas.{count_parts}
 use Rattle.machine_laws.proofs.TouchedLemmas.{touched_or_not, after_in_nodes, touched_has, has_touched}
 
 -- the new part of a group is its part
-part_of_group : (g : GraphData) (group : Group) (parts : List HeldPart) (k : ℕ) (part : HeldPart) → Stands parts k part → IsGroup g group →
+part_of_group : (g : GraphData) (group : Group) (parts : List MachinePart) (k : ℕ) (part : MachinePart) → Stands parts k part → IsGroup g group →
     IsStalePartOf group.members part → IsPartOf g group part
 part_of_group g group parts k part stands is_group is_new = record {
   is_group = is_group;
@@ -111,7 +111,7 @@ member_below g groups others are same group node there member =
     (member_storage g group (subst (IsGroup g) in_groups.2 (are.each in_groups.0 group in_groups.1)) node member).inside
 
 -- the part is the new stale part of a touched group
-pub record IsRenewed (g : GraphData) (change : Change) (old : MachineData) (now : List Group) (k : ℕ) (part : HeldPart) : Type 0 where
+pub record IsRenewed (g : GraphData) (change : Change) (old : MachineData) (now : List Group) (k : ℕ) (part : MachinePart) : Type 0 where
   pub later : length old.parts ≤ k
   pub group : Group
   pub there : Contains now group
@@ -119,7 +119,7 @@ pub record IsRenewed (g : GraphData) (change : Change) (old : MachineData) (now 
   pub is_new : IsStalePartOf group.members part
 
 -- the part is that of an untouched group, and stands as it stood
-pub record IsStill (g : GraphData) (change : Change) (old cleared : MachineData) (now : List Group) (k : ℕ) (part : HeldPart) : Type 0 where
+pub record IsStill (g : GraphData) (change : Change) (old cleared : MachineData) (now : List Group) (k : ℕ) (part : MachinePart) : Type 0 where
   pub group : Group
   pub there : Contains now group
   pub untouched : is_touched_in g change old group ≡ false
@@ -182,7 +182,7 @@ module _ (g : GraphData) (change : Change) (old : MachineData) (covers : Covers 
 
   module _ (cleared made : MachineData) (clears : Clears nodes_found start cleared) (renews : RenewsAll now.groups nodes_found cleared made)
       (apart : AreApart made.parts) (stale_marked : (k : ℕ) → IsStale made.parts k → IsMarked made.marks k) where
-    module _ (k : ℕ) (part : HeldPart) (stands : Stands made.parts k part) (some : 0 < part.members) where
+    module _ (k : ℕ) (part : MachinePart) (stands : Stands made.parts k part) (some : 0 < part.members) where
       -- a part that stands as it stood is that of an untouched group
       stood_still : Stands cleared.parts k part → IsStill g change old cleared now.groups k part
       stood_still middle =
@@ -271,11 +271,11 @@ module _ (g : GraphData) (change : Change) (old : MachineData) (covers : Covers 
               let (was, alike) = untouched_was group there untouched in
               let has = covers.each was.0 group
               (slice_get_read covers.groups.groups (length covers.groups.groups) was.0 group refl was.1 (sym was.2)) in
-              let its : (parts : List HeldPart) → Stands parts has.k has.part → (node : ℕ) → HasMember parts has.k node → Contains group.members node =
+              let its : (parts : List MachinePart) → Stands parts has.k has.part → (node : ℕ) → HasMember parts has.k node → Contains group.members node =
               λ parts stands node held.
               let same = same_part parts has.k held.part has.part held.stands stands in
               member_in_group before group has.part has.is_part held.place node
-              (subst (λ (one : HeldPart). IsMemberAt one held.place node) same held.member) in
+              (subst (λ (one : MachinePart). IsMemberAt one held.place node) same held.member) in
               let middle : Stands cleared.parts has.k has.part = clears.stays has.k has.part has.stands (λ node among_nodes held.
               untouched_none group there untouched node (its old.parts has.stands node held) among_nodes) in
               let stands : Stands made.parts has.k has.part = renews.stays has.k has.part middle (λ other node in_groups any member held.
@@ -290,7 +290,7 @@ module _ (g : GraphData) (change : Change) (old : MachineData) (covers : Covers 
               }
         ]
 
-    whole : (k : ℕ) (part : HeldPart) → Stands made.parts k part → 0 < part.members → (group : Group) × IsPartOf g group part
+    whole : (k : ℕ) (part : MachinePart) → Stands made.parts k part → 0 < part.members → (group : Group) × IsPartOf g group part
     whole k part stands some =
         elim (part_cases k part stands some) [
           | inl is ↦ (is.group, renewed_part k part stands some is)
@@ -306,18 +306,19 @@ module _ (g : GraphData) (change : Change) (old : MachineData) (covers : Covers 
     counted : length made.state ≡ nodes g
     counted = ap length made_state ∙ counted_grown g change old.state covers.counted
 
-    is_stale : (k : ℕ) (part : HeldPart) → Stands made.parts k part → 0 < part.members → part.code ≡ None → IsMarked made.marks k
+    is_stale : (k : ℕ) (part : MachinePart) → Stands made.parts k part → 0 < part.members → part.code ≡ None → IsMarked made.marks k
     is_stale k part stands some none = stale_marked k (record { part = part; stands = stands; some = some; none = none })
 
     tidy_cleared : IsTidy cleared
     tidy_cleared = clears.tidy (record { counted = covers.uses_counted; textless = covers.textless; quiet = covers.quiet })
 
     -- a new part has no text yet
-    untold_new : (k : ℕ) (part : HeldPart) → Stands made.parts k part → 0 < part.members → IsRenewed g change old now.groups k part →
+    untold_new : (k : ℕ) (part : MachinePart) → Stands made.parts k part → 0 < part.members → IsRenewed g change old now.groups k part →
         slice_index_or made.uses k None ≡ None
     untold_new k part stands some is = renews.untold tidy_cleared k part stands (omega (arith, is.later, clears.count)) some
 
-    known : (k : ℕ) (part : HeldPart) → Stands made.parts k part → slice_index_or made.uses k None ≢ None → (group : Group) → IsPartOf g group part →
+    known : (k : ℕ) (part : MachinePart) → Stands made.parts k part → slice_index_or made.uses k None ≢ None → (group : Group) →
+        IsPartOf g group part →
         IsTextOf g group (slice_index_or made.uses k None)
     known k part stands numbered group is_part =
         let some : 0 < part.members = omega (arith, is_part.count, is_part.is_group.some) in
@@ -333,14 +334,14 @@ module _ (g : GraphData) (change : Change) (old : MachineData) (covers : Covers 
               })
         ]
 
-    has_text : (k : ℕ) (part : HeldPart) → Stands made.parts k part → 0 < part.members → part.code ≢ None → slice_index_or made.uses k None ≢ None
+    has_text : (k : ℕ) (part : MachinePart) → Stands made.parts k part → 0 < part.members → part.code ≢ None → slice_index_or made.uses k None ≢ None
     has_text k part stands some coded none =
         elim (part_cases k part stands some) [
           | inl is ↦ coded is.is_new.code
           | inr is ↦ covers.numbered k part is.stood some coded (sym (still_uses k part stands some is) ∙ none)
         ]
 
-    rests : (k : ℕ) (part : HeldPart) → Stands made.parts k part → ¬ IsMarked made.marks k → Rests g made.state (take part.members part.map.items)
+    rests : (k : ℕ) (part : MachinePart) → Stands made.parts k part → ¬ IsMarked made.marks k → Rests g made.state (take part.members part.map.items)
     rests k part stands unmarked =
         elim (cases_lt 0 part.members) [
           | inr none ↦ none_rest g made.state part.map.items part.members none
@@ -391,7 +392,7 @@ module _ (g : GraphData) (change : Change) (old : MachineData) (covers : Covers 
           (λ node storage. covers.stale_only was_wide.0 was_wide.1 node (was_storage node storage)) ((made_known.known later is).1)
 
       -- so a new part has none of them
-      outside_new : (k : ℕ) (part : HeldPart) → Stands made.parts k part → length old.parts ≤ k → IsOutside later.graph part
+      outside_new : (k : ℕ) (part : MachinePart) → Stands made.parts k part → length old.parts ≤ k → IsOutside later.graph part
       outside_new k part stands new node there storage =
           let (l, has, stale) = covers.stale_only was_wide.0 was_wide.1 node (was_storage node storage) in
           let taken = member_taken old.parts l stale.part stale.stands node has in
@@ -400,7 +401,7 @@ module _ (g : GraphData) (change : Change) (old : MachineData) (covers : Covers 
           omega (arith, same, new, stale.stands.inside)
 
       -- and a part that stands as it stood is held as it was
-      made_held : (k : ℕ) (part : HeldPart) → Stands made.parts k part → 0 < part.members → part.code ≡ None →
+      made_held : (k : ℕ) (part : MachinePart) → Stands made.parts k part → 0 < part.members → part.code ≡ None →
           IsHeldIn g made.state later (slice_index_or made.uses k None) part ⊎ IsOutside later.graph part
       made_held k part stands some none =
           elim (part_cases k part stands some) [
@@ -419,7 +420,7 @@ module _ (g : GraphData) (change : Change) (old : MachineData) (covers : Covers 
 
     -- and if each part stands that had one of their members, they are known
     made_stays : (wide : WideData) → old.wide ≡ Some wide →
-        ((k : ℕ) (part : HeldPart) → Stands old.parts k part → (¬ IsOutside wide.graph part) → Stands made.parts k part) → made.wide ≢ None
+        ((k : ℕ) (part : MachinePart) → Stands old.parts k part → (¬ IsOutside wide.graph part) → Stands made.parts k part) → made.wide ≢ None
     made_stays wide is stands none =
         let (grown, begun_is, by) = wide_grown (nodes g) old.wide begun grows wide is in
         elim (made_known.lost grown begun_is) [
@@ -456,7 +457,7 @@ module _ (g : GraphData) (change : Change) (old : MachineData) (covers : Covers 
     }
 
     -- the part of a touched group is stale, and that of another one stood
-    module _ (k : ℕ) (part : HeldPart) (group : Group) (stands : Stands made.parts k part) (is_part : IsPartOf g group part) where
+    module _ (k : ℕ) (part : MachinePart) (group : Group) (stands : Stands made.parts k part) (is_part : IsPartOf g group part) where
       has_some : 0 < part.members
       has_some = omega (arith, is_part.count, is_part.is_group.some)
 

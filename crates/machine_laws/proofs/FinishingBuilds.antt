@@ -1,7 +1,7 @@
 -- What a finish has analysed is what a build of the graph would: the texts of the parts that don't wait are kept.
 use Rattle.std.proofs.Common.{◌≡◌, ℕ, Bool, true, false, List, map, All, None, refl, sym, ap, subst, ◌∙◌, true≢false}
 use Rattle.std.specs.Prelude.{Contains, filter}
-use Rattle.path_meaning.specs.Graphs.{GraphData}
+use Rattle.switch_paths.specs.Graphs.{GraphData}
 use Rattle.group_meaning.specs.Groups.{Group, AreGroups}
 use Rattle.group_text.specs.Texts.{GroupTextData, text_of_group}
 use Rattle.group_text.specs.FirstTexts.{is_among, new_texts}

@@ -3,7 +3,7 @@ use Rattle.std.proofs.Common.{◌≡◌, ℕ, zero, suc, ◌<◌, Bool, true, fa
 use Rattle.std.specs.Prelude.{Contains, find, is_some, option_map}
 use Rattle.std.proofs.lemmas.Bool.{cases_Bool}
 use Rattle.std.proofs.lemmas.Bool.Decides.{Decides-eqb}
-use Rattle.path_meaning.specs.Graphs.{GraphData, nodes}
+use Rattle.switch_paths.specs.Graphs.{GraphData, nodes}
 use Rattle.group_meaning.specs.Groups.{Group, IsGroup, AreGroups, id_of}
 use Rattle.group_meaning.proofs.UniqueGroups.{id_member, same_by_member}
 use Rattle.group_meaning.proofs.GroupLemmas.{member_storage}

@@ -9,7 +9,7 @@ use Rattle.std.proofs.lemmas.List.{get_or_default, get_or-take, get_or-map, leng
 use Rattle.std.proofs.lemmas.List.Elements.{Contains-append_right}
 use Rattle.std.proofs.lemmas.List.Kept.{AllPairs-from_increasing, IsStrictlyIncreasing-filter}
 use Rattle.std.proofs.lemmas.Option.{slice_get_read, slice_get_within, get_or_from_slice_get}
-use Rattle.path_meaning.specs.Graphs.{GraphData}
+use Rattle.switch_paths.specs.Graphs.{GraphData}
 use Rattle.group_meaning.specs.Groups.{Group, IsGroup, id_of}
 use Rattle.group_meaning.proofs.AscendingLists.{same_ascending}
 use Rattle.group_meaning.proofs.MappedLists.{contains-map, contains-from_map}
@@ -23,7 +23,7 @@ use Rattle.circuit_texts.specs.Sizes.{fault_in, refused_in, IsFirstRefused, Tell
 use Rattle.circuit_texts.specs.Told.{has_text, with_text}
 use Rattle.circuit_texts.proofs.SizeLemmas.{fits_any}
 use Rattle.circuit_texts.proofs.ToldLemmas.{text_from_fit, ascending-filter}
-use Rattle.machine_parts.specs.declared.part.HeldPart.{HeldPart}
+use Rattle.machine_parts.specs.declared.part.MachinePart.{MachinePart}
 use Rattle.machine_parts.specs.Parts.{Stands, HasMember, IsStale}
 use Rattle.machine_laws.specs.Machines.{MachineData}
 use Rattle.machine_parts.specs.Marking.{AreOnce}
@@ -72,12 +72,12 @@ some_back (x ∷ slots) k (zero, inside, here) =
 some_back (x ∷ slots) k (suc i, inside, here) = Contains-append_right (x ∷ []) slots k (some_back slots k (i, omega (arith, inside), here))
 
 -- the slot of each of some groups
-record HasSlot (g : GraphData) (parts : List HeldPart) (owners : List (Option ℕ)) (group : Group) : Type 0 where
+record HasSlot (g : GraphData) (parts : List MachinePart) (owners : List (Option ℕ)) (group : Group) : Type 0 where
   pub k : ℕ
   pub owner : slice_index_or owners (id_of group) None ≡ Some k
   pub slot : IsSlotOf g parts group k
 
-zip_slots : (g : GraphData) (parts : List HeldPart) (owners : List (Option ℕ)) (some : List Group) (slots : List ℕ) →
+zip_slots : (g : GraphData) (parts : List MachinePart) (owners : List (Option ℕ)) (some : List Group) (slots : List ℕ) →
     ((group : Group) → Contains some group → HasSlot g parts owners group) →
     map Some slots ≡ map (λ node. slice_index_or owners node None) (map id_of some) → AllZip (IsSlotOf g parts) some slots
 zip_slots g parts owners [] [] each are = tt
@@ -94,13 +94,14 @@ zip_slots g parts owners (group ∷ some) (k ∷ slots) each are =
     )
 
 -- the first node of the part of a group is the group's least one
-pub first_is : (g : GraphData) (parts : List HeldPart) (k : ℕ) (part : HeldPart) → Stands parts k part → (group : Group) → IsPartOf g group part →
+pub first_is : (g : GraphData) (parts : List MachinePart) (k : ℕ) (part : MachinePart) → Stands parts k part → (group : Group) →
+    IsPartOf g group part →
     first_node parts k ≡ id_of group
 first_is g parts k part stands group is_part =
     let some = is_part.is_group.some in
     let within : 0 < part.members = omega (arith, is_part.count, some) in
     ap (λ nodes. slice_index nodes 0)
-    (get_or-map (λ (one : HeldPart). one.map.items) parts k part [] stands.inside ∙ ap (λ (one : HeldPart). one.map.items) stands.here)
+    (get_or-map (λ (one : MachinePart). one.map.items) parts k part [] stands.inside ∙ ap (λ (one : MachinePart). one.map.items) stands.here)
     ∙ (sym (get_or-take part.members part.map.items 0 0 within) ∙ ap (λ nodes. slice_index nodes 0) is_part.members)
 
 module _ (g : GraphData) (m : MachineData) (covers : Covers g m) (count : ℕ) (owners : List (Option ℕ)) (own : AreOwners m.parts count owners) where
@@ -195,7 +196,7 @@ module _ (g : GraphData) (m : MachineData) (covers : Covers g m) (count : ℕ) (
         (k, subst (λ other. IsSlotOf g m.parts other k) one waits.slot)
 
     -- and each group with a stale part is one of them, or is passed over
-    pub due_now : (k : ℕ) (part : HeldPart) (group : Group) → Stands m.parts k part → part.code ≡ None → IsPartOf g group part →
+    pub due_now : (k : ℕ) (part : MachinePart) (group : Group) → Stands m.parts k part → part.code ≡ None → IsPartOf g group part →
         (waits_now group ≡ true) ⊎ Passed (id_of group)
     due_now k part group stands stale is_part =
         let is_stale : IsStale m.parts k = record { part = part; stands = stands; some = some_members is_part; none = stale } in
@@ -205,7 +206,7 @@ module _ (g : GraphData) (m : MachineData) (covers : Covers g m) (count : ℕ) (
           | inr passed ↦ inr (subst Passed first passed)
         ]
 
-    module _ (large : ℕ) (passes : (k : ℕ) (part : HeldPart) (group : Group) → Stands m.parts k part → part.code ≡ None → IsPartOf g group part →
+    module _ (large : ℕ) (passes : (k : ℕ) (part : MachinePart) (group : Group) → Stands m.parts k part → part.code ≡ None → IsPartOf g group part →
         Passed (id_of group) → refused_in large group ≡ None) where
       -- a group that doesn't wait isn't refused, if none is that is passed over
       others_fit : (group : Group) → Contains all_groups group → waits_now group ≡ false → refused_in large group ≡ None
@@ -246,7 +247,7 @@ module _ (g : GraphData) (m : MachineData) (covers : Covers g m) (count : ℕ) (
   -- some groups with a stale part are due, and each other one is passed over
   module _ (due : Group → Bool) (slot_of : (group : Group) → Contains all_groups group → due group ≡ true → (k : ℕ) × IsSlotOf g m.parts group k)
       (Passed : ℕ → Type 0)
-      (due_all : (k : ℕ) (part : HeldPart) (group : Group) → Stands m.parts k part → part.code ≡ None → IsPartOf g group part →
+      (due_all : (k : ℕ) (part : MachinePart) (group : Group) → Stands m.parts k part → part.code ≡ None → IsPartOf g group part →
       (due group ≡ true) ⊎ Passed (id_of group)) where
     abbrev pub due_groups : List Group
     due_groups = filter due all_groups
@@ -286,7 +287,7 @@ module _ (g : GraphData) (m : MachineData) (covers : Covers g m) (count : ℕ) (
         let both : Some slot.k ≡ None = sym slot.owner ∙ (ap (λ n. slice_index_or owners n None) any.4 ∙ none) in
         absurd cc
 
-    module _ (told : (k : ℕ) (part : HeldPart) (group : Group) → Stands m.parts k part → part.code ≡ None → IsPartOf g group part →
+    module _ (told : (k : ℕ) (part : MachinePart) (group : Group) → Stands m.parts k part → part.code ≡ None → IsPartOf g group part →
         Passed (id_of group) → fault_in group ≡ None → slice_index_or m.uses k None ≢ None) (told_nodes slots : List ℕ) (told_ids : map id_of told_groups ≡ told_nodes)
         (slots_are : map Some slots ≡ map (λ node. slice_index_or owners node None) told_nodes) where
       slots_zip : AllZip (IsSlotOf g m.parts) told_groups slots
@@ -294,7 +295,7 @@ module _ (g : GraphData) (m : MachineData) (covers : Covers g m) (count : ℕ) (
           zip_slots g m.parts owners told_groups slots (λ group there. due_slot group (told_there group there).0)
           (slots_are ∙ ap (map (λ node. slice_index_or owners node None)) (sym told_ids))
 
-      slots_all : (k : ℕ) (part : HeldPart) (group : Group) → Stands m.parts k part → part.code ≡ None → IsPartOf g group part → fault_in group ≡ None →
+      slots_all : (k : ℕ) (part : MachinePart) (group : Group) → Stands m.parts k part → part.code ≡ None → IsPartOf g group part → fault_in group ≡ None →
           Contains slots k ⊎ (slice_index_or m.uses k None ≢ None)
       slots_all k part group stands stale is_part fits =
           elim (due_all k part group stands stale is_part) [

@@ -5,17 +5,17 @@ use Rattle.std.proofs.lemmas.Bool.{cases_lt}
 use Rattle.group_text.specs.Texts.{GroupTextData}
 use Rattle.ternary.specs.declared.tern.Tern.{Tern}
 use Rattle.ternary.specs.Tern.{join}
-use Rattle.path_meaning.specs.Switching.{state_at}
-use Rattle.path_meaning.specs.Graphs.{GraphData, IsWired, nodes}
-use Rattle.path_meaning.specs.Rails.{IsSound}
-use Rattle.path_meaning.specs.Step.{IsResponse, IsStep}
-use Rattle.path_meaning.proofs.ExistingSteps.{exists}
-use Rattle.path_meaning.proofs.UniqueSteps.{response_is_unique}
+use Rattle.switch_paths.specs.Switching.{state_at}
+use Rattle.switch_paths.specs.Graphs.{GraphData, IsWired, nodes}
+use Rattle.switch_paths.specs.Rails.{IsSound}
+use Rattle.switch_paths.specs.Step.{IsResponse, IsStep}
+use Rattle.switch_paths.proofs.ExistingSteps.{exists}
+use Rattle.switch_paths.proofs.UniqueSteps.{response_is_unique}
 use Rattle.group_meaning.specs.Groups.{Group}
 use Rattle.group_rest.specs.Rest.{Rests, Responded, ReadsNoChange}
 use Rattle.group_rest.proofs.RestingGroups.{unread_group_rests}
-use Rattle.oscillation_x.specs.Settling.{IsJoinStep}
-use Rattle.machine_parts.specs.declared.part.HeldPart.{HeldPart}
+use Rattle.settling.specs.Settling.{IsJoinStep}
+use Rattle.machine_parts.specs.declared.part.MachinePart.{MachinePart}
 use Rattle.std.specs.Prelude.{Contains, Option, Some, slice_index_or}
 use Rattle.circuit_texts.specs.Sizes.{refused_in}
 use Rattle.group_meaning.proofs.GroupLemmas.{member_storage}
@@ -47,10 +47,10 @@ none_rest g state xs count none node there =
 -- unmarked parts rest
 pub fits_with : (g : GraphData) (m : MachineData) (fits : FitsGraph g m) (marks : List Bool) (state : List Tern) (last : List GroupTextData) (moved placed : ℕ) (wide : Option WideData) →
     length state ≡ nodes g →
-    ((k : ℕ) (part : HeldPart) → Stands m.parts k part → 0 < part.members → part.code ≡ None → IsMarked marks k) →
-    ((k : ℕ) (part : HeldPart) → Stands m.parts k part → ¬ IsMarked marks k → Rests g state (take part.members part.map.items)) →
+    ((k : ℕ) (part : MachinePart) → Stands m.parts k part → 0 < part.members → part.code ≡ None → IsMarked marks k) →
+    ((k : ℕ) (part : MachinePart) → Stands m.parts k part → ¬ IsMarked marks k → Rests g state (take part.members part.map.items)) →
     ((one : WideData) → wide ≡ Some one → HasStaleOnly m.parts one.graph) →
-    ((one : WideData) → wide ≡ Some one → (k : ℕ) (part : HeldPart) → Stands m.parts k part → 0 < part.members → part.code ≡ None →
+    ((one : WideData) → wide ≡ Some one → (k : ℕ) (part : MachinePart) → Stands m.parts k part → 0 < part.members → part.code ≡ None →
     IsHeldIn g state one (slice_index_or m.uses k None) part) →
     (wide ≡ None → m.wide ≡ None) →
     IsSound state → FitsGraph g (record m { marks = marks; state = state; last = last; moves = moved; placed = placed; wide = wide })
@@ -116,7 +116,7 @@ module _ (g : GraphData) (wired : IsWired g) (old : MachineData) (fits : FitsGra
       (remarks : KeepsMarks joining old.parts old.marks old.state new marks) (wide : Option WideData)
       (retouches : RetouchesIn joining old.wide wide old.state new) where
     -- stale parts stay marked
-    stale_marked : (k : ℕ) (part : HeldPart) → Stands old.parts k part → 0 < part.members → part.code ≡ None → IsMarked marks k
+    stale_marked : (k : ℕ) (part : MachinePart) → Stands old.parts k part → 0 < part.members → part.code ≡ None → IsMarked marks k
     stale_marked k part stands some none = by_kind joining remarks
       where
         by_kind : (joining : Bool) → KeepsMarks joining old.parts old.marks old.state new marks → IsMarked marks k
@@ -125,7 +125,7 @@ module _ (g : GraphData) (wired : IsWired g) (old : MachineData) (fits : FitsGra
             remarks.stays k (fits.covers.waits k part stands some none, record { part = part; stands = stands; some = some; none = none })
 
     -- the members of a part that isn't marked afterwards took their steady states, in this step or before
-    responded : (k : ℕ) (part : HeldPart) → Stands old.parts k part → (¬ IsMarked marks k) → (group : Group) → IsPartOf g group part →
+    responded : (k : ℕ) (part : MachinePart) → Stands old.parts k part → (¬ IsMarked marks k) → (group : Group) → IsPartOf g group part →
         Responded g old.state new group.members
     responded k part stands unmarked group is_part node member =
         let (place, there) = member_of_part g group part is_part node member in
@@ -142,7 +142,7 @@ module _ (g : GraphData) (wired : IsWired g) (old : MachineData) (fits : FitsGra
             (unmarked_response g wired old fits true new moves k node has before)
 
     -- and it read no change
-    reads_no_change : (k : ℕ) (part : HeldPart) → Stands old.parts k part → 0 < part.members → (¬ IsMarked marks k) → (group : Group) →
+    reads_no_change : (k : ℕ) (part : MachinePart) → Stands old.parts k part → 0 < part.members → (¬ IsMarked marks k) → (group : Group) →
         IsPartOf g group part → ReadsNoChange g group old.state new
     reads_no_change k part stands some unmarked group is_part node reads =
         let (code, is) = something part.code (λ none. unmarked (stale_marked k part stands some none)) in
@@ -159,7 +159,7 @@ module _ (g : GraphData) (wired : IsWired g) (old : MachineData) (fits : FitsGra
         ]
 
     -- so they rest
-    part_rests : (k : ℕ) (part : HeldPart) → Stands old.parts k part → (¬ IsMarked marks k) → Rests g new (take part.members part.map.items)
+    part_rests : (k : ℕ) (part : MachinePart) → Stands old.parts k part → (¬ IsMarked marks k) → Rests g new (take part.members part.map.items)
     part_rests k part stands unmarked =
         elim (cases_lt 0 part.members) [
           | inl some ↦
@@ -171,7 +171,7 @@ module _ (g : GraphData) (wired : IsWired g) (old : MachineData) (fits : FitsGra
         ]
 
     -- a group that is stepped by vicinities rests again but for what is awake
-    held_again : (one : WideData) → wide ≡ Some one → (k : ℕ) (part : HeldPart) → Stands old.parts k part → 0 < part.members → part.code ≡ None →
+    held_again : (one : WideData) → wide ≡ Some one → (k : ℕ) (part : MachinePart) → Stands old.parts k part → 0 < part.members → part.code ≡ None →
         IsHeldIn g new one (slice_index_or old.uses k None) part
     held_again one is k part stands some none =
         let (before, was, touches) = retouched joining old.wide wide old.state new retouches one is in
@@ -192,7 +192,7 @@ module _ (g : GraphData) (wired : IsWired g) (old : MachineData) (fits : FitsGra
           rests = subst (λ h. RestsAsleep h new group.members one.touched.list) (sym same) rests;
         }
       where
-        held_responded : (before : WideData) → old.wide ≡ Some before → (k : ℕ) (part : HeldPart) → Stands old.parts k part → IsStale old.parts k →
+        held_responded : (before : WideData) → old.wide ≡ Some before → (k : ℕ) (part : MachinePart) → Stands old.parts k part → IsStale old.parts k →
             (held : IsHeldIn g old.state before (slice_index_or old.uses k None) part) (again : List ℕ) (kind : Bool) → MovesIn kind old.parts old.marks old.wide old.state new →
             (kind ≡ true → (node : ℕ) → Contains before.touched.list node → Contains again node) →
             RespondedAsleep before.graph old.state new held.group.members again

@@ -4,12 +4,12 @@ use Rattle.std.specs.Prelude.{Contains, slice_index, slice_index_or}
 use Rattle.std.proofs.lemmas.List.{get_or_default}
 use Rattle.ternary.specs.declared.tern.Tern.{Tern}
 use Rattle.strength_order.specs.declared.TheConstants.{INPUT_LEVEL}
-use Rattle.path_meaning.specs.declared.switching.Switch.{Switch}
-use Rattle.path_meaning.specs.Path.{Joins}
-use Rattle.path_meaning.specs.Switching.{state_at, state_by}
-use Rattle.path_meaning.specs.Graphs.{GraphData, IsWired, IsStorage, nodes, level_of, place_at}
-use Rattle.path_meaning.specs.Step.{IsResponse}
-use Rattle.path_meaning.proofs.PathLemmas.{switch_fits}
+use Rattle.switch_paths.specs.declared.switching.Switch.{Switch}
+use Rattle.switch_paths.specs.Path.{Joins}
+use Rattle.switch_paths.specs.Switching.{state_at, state_by}
+use Rattle.switch_paths.specs.Graphs.{GraphData, IsWired, IsStorage, nodes, level_of, place_at}
+use Rattle.switch_paths.specs.Step.{IsResponse}
+use Rattle.switch_paths.proofs.PathLemmas.{switch_fits}
 use Rattle.group_meaning.specs.Groups.{Group, AreJoined}
 use Rattle.group_meaning.proofs.GroupLemmas.{member_storage, switch_of_member}
 use Rattle.group_meaning.proofs.LinkLemmas.{Joins-sym}
@@ -23,7 +23,7 @@ use Rattle.vicinity.specs.Growing.{GrowsWide, grown_graph}
 use Rattle.vicinity.proofs.LiveGraphs.{joined_whole}
 use Rattle.vicinity.proofs.SleepingNodes.{asleep_rest}
 use Rattle.vicinity.proofs.GrowingLemmas.{IsAlike-grown, near_grown, state_before}
-use Rattle.machine_parts.specs.declared.part.HeldPart.{HeldPart}
+use Rattle.machine_parts.specs.declared.part.MachinePart.{MachinePart}
 use Rattle.machine_parts.specs.Parts.{Stands}
 use Rattle.machine_laws.specs.Machines.{MachineData}
 use Rattle.machine_laws.specs.Fitting.{IsPartOf, IsHeldIn, FitsGraph}
@@ -81,7 +81,7 @@ module _ (g : GraphData) (wired : IsWired g) (wide : WideData) (wired_too : IsWi
           absurd (edge.changed (inputs_stay edge.other (edge_input edge.place node edge.other member joined edge.input)))
 
 -- on a graph that a machine fits each stale part is that of a group that is stepped by vicinities
-pub held_at : (g : GraphData) (m : MachineData) → FitsGraph g m → (wide : WideData) → m.wide ≡ Some wide → (k : ℕ) (part : HeldPart) → Stands m.parts k part →
+pub held_at : (g : GraphData) (m : MachineData) → FitsGraph g m → (wide : WideData) → m.wide ≡ Some wide → (k : ℕ) (part : MachinePart) → Stands m.parts k part →
     0 < part.members → part.code ≡ None → IsHeldIn g m.state wide (slice_index_or m.uses k None) part
 held_at g m fits wide is k part stands some none =
     let (one, known, held) = fits.coded k part stands some none in
@@ -90,7 +90,7 @@ held_at g m fits wide is k part stands some none =
     subst (λ (w : WideData). IsHeldIn g m.state w (slice_index_or m.uses k None) part) same held
 
 -- so if none is known no part is stale
-pub coded_without : (g : GraphData) (m : MachineData) → FitsGraph g m → m.wide ≡ None → (k : ℕ) (part : HeldPart) → Stands m.parts k part →
+pub coded_without : (g : GraphData) (m : MachineData) → FitsGraph g m → m.wide ≡ None → (k : ℕ) (part : MachinePart) → Stands m.parts k part →
     0 < part.members → part.code ≢ None
 coded_without g m fits without k part stands some none =
     let (one, known, held) = fits.coded k part stands some none in
@@ -139,7 +139,8 @@ module _ (g : GraphData) (wired : IsWired g) (h : GraphData) (wired_too : IsWire
 
 -- a group that an edit leaves as it was is held still
 pub IsHeldIn-grown : (before g : GraphData) → IsWired before → IsWired g → (state more : List Tern) → length state ≡ nodes before → (count : ℕ)
-    (wide later : WideData) → GrowsWide count wide later → (text : Option GroupTextData) (part : HeldPart) (group : Group) → IsAlike before g group →
+    (wide later : WideData) → GrowsWide count wide later → (text : Option GroupTextData) (part : MachinePart) (group : Group) →
+    IsAlike before g group →
     IsPartOf before group part → IsHeldIn before state wide text part → IsHeldIn g (state ++ more) later text part
 IsHeldIn-grown before g wired_before wired state more counted count wide later grows text part group alike is_part held =
     let same : held.group ≡ group = one_group before held.group group part held.is_part is_part in

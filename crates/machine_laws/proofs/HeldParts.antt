@@ -4,8 +4,8 @@ use Rattle.std.proofs.Common.{◌≡◌, ◌≢◌, ℕ, ◌<◌, ◌≤◌, inl
 use Rattle.std.specs.Prelude.{Contains, slice_set}
 use Rattle.std.proofs.lemmas.List.{get_or-take, get_or_default, length-take}
 use Rattle.ternary.specs.declared.tern.Tern.{Tern}
-use Rattle.path_meaning.specs.Graphs.{GraphData, IsStorage}
-use Rattle.machine_parts.specs.declared.part.HeldPart.{HeldPart}
+use Rattle.switch_paths.specs.Graphs.{GraphData, IsStorage}
+use Rattle.machine_parts.specs.declared.part.MachinePart.{MachinePart}
 use Rattle.machine_parts.specs.Parts.{Stands, IsMemberAt, HasMember, AreApart}
 use Rattle.machine_parts.proofs.PartLemmas.{same_part}
 use Rattle.vicinity.specs.Wides.{WideData}
@@ -18,7 +18,7 @@ use Rattle.machine_laws.proofs.SlotLemmas.{Stands-other, Stands-same, Stands-bef
 use Rattle.machine_laws.proofs.HeldLemmas.{known_or_not}
 
 -- what is taken of a part's map is a member of the part
-pub taken_member : (parts : List HeldPart) (k : ℕ) (part : HeldPart) → Stands parts k part → (node : ℕ) → Contains (take part.members part.map.items) node →
+pub taken_member : (parts : List MachinePart) (k : ℕ) (part : MachinePart) → Stands parts k part → (node : ℕ) → Contains (take part.members part.map.items) node →
     HasMember parts k node
 taken_member parts k part stands node there =
     let place = there.0 in
@@ -37,7 +37,7 @@ taken_member parts k part stands node there =
     }
 
 -- and a member is taken
-pub member_taken : (parts : List HeldPart) (k : ℕ) (part : HeldPart) → Stands parts k part → (node : ℕ) → HasMember parts k node →
+pub member_taken : (parts : List MachinePart) (k : ℕ) (part : MachinePart) → Stands parts k part → (node : ℕ) → HasMember parts k node →
     Contains (take part.members part.map.items) node
 member_taken parts k part stands node has =
     let same : has.part ≡ part = same_part parts k has.part part has.stands stands in
@@ -47,16 +47,16 @@ member_taken parts k part stands node has =
       get_or-take part.members part.map.items has.place node member.inside ∙ (get_or_default part.map.items has.place node 0 member.within ∙ member.here),
     )
 
-pub taken_some : (part : HeldPart) (node : ℕ) → Contains (take part.members part.map.items) node → 0 < part.members
+pub taken_some : (part : MachinePart) (node : ℕ) → Contains (take part.members part.map.items) node → 0 < part.members
 taken_some part node there = omega (arith, there.1, length-take part.members part.map.items)
 
 -- if nothing changes, what is known is known
-pub KeepsKnown-same : (parts : List HeldPart) (wide : Option WideData) → KeepsKnown parts parts wide wide
+pub KeepsKnown-same : (parts : List MachinePart) (wide : Option WideData) → KeepsKnown parts parts wide wide
 KeepsKnown-same parts wide = record { known = λ one is. (is, λ k part node stands there storage. stands); lost = λ one is. inl is }
 
 -- what was lost before is lost after it
-loses_first : (g : GraphData) (a b c : List HeldPart) → length a ≤ length b →
-    ((k : ℕ) (part : HeldPart) → Stands c k part → k < length b → 0 < part.members → Stands b k part) → Loses g a b → Loses g a c
+loses_first : (g : GraphData) (a b c : List MachinePart) → length a ≤ length b →
+    ((k : ℕ) (part : MachinePart) → Stands c k part → k < length b → 0 < part.members → Stands b k part) → Loses g a b → Loses g a c
 loses_first g a b c count back loses = record {
   node = loses.node;
   storage = loses.storage;
@@ -65,8 +65,8 @@ loses_first g a b c count back loses = record {
 }
 
 -- and one change after another
-pub KeepsKnown-then : (a b c : List HeldPart) (x y z : Option WideData) → length a ≤ length b →
-    ((k : ℕ) (part : HeldPart) → Stands c k part → k < length b → 0 < part.members → Stands b k part) → KeepsKnown a b x y → KeepsKnown b c y z →
+pub KeepsKnown-then : (a b c : List MachinePart) (x y z : Option WideData) → length a ≤ length b →
+    ((k : ℕ) (part : MachinePart) → Stands c k part → k < length b → 0 < part.members → Stands b k part) → KeepsKnown a b x y → KeepsKnown b c y z →
     KeepsKnown a c x z
 KeepsKnown-then a b c x y z count back first then = record {
   known = λ wide is.
@@ -100,24 +100,25 @@ KeepsKnown-then a b c x y z count back first then = record {
 }
 
 -- a part comes behind the others
-pub KeepsKnown-seated : (parts : List HeldPart) (e : HeldPart) (old new : Option WideData) → new ≡ old → KeepsKnown parts (parts ++ e ∷ []) old new
+pub KeepsKnown-seated : (parts : List MachinePart) (e : MachinePart) (old new : Option WideData) → new ≡ old →
+    KeepsKnown parts (parts ++ e ∷ []) old new
 KeepsKnown-seated parts e old new same = record {
   known = λ wide is. (sym same ∙ is, λ k part node stands there storage. Stands-before parts e k part stands);
   lost = λ wide is. inl (same ∙ is);
 }
 
 -- a part lost its group
-module _ (parts : List HeldPart) (k : ℕ) (gone e : HeldPart) (stands : Stands parts k gone) (apart : AreApart parts) (vacant : IsVacant e) (old new : Option WideData)
+module _ (parts : List MachinePart) (k : ℕ) (gone e : MachinePart) (stands : Stands parts k gone) (apart : AreApart parts) (vacant : IsVacant e) (old new : Option WideData)
     (forgets : ForgetsWith (take gone.members gone.map.items) old new) where
   -- a part with a member of the groups that are known still is another one
-  other_part : (wide : WideData) → new ≡ Some wide → (l : ℕ) (part : HeldPart) (node : ℕ) → Stands parts l part →
+  other_part : (wide : WideData) → new ≡ Some wide → (l : ℕ) (part : MachinePart) (node : ℕ) → Stands parts l part →
       Contains (take part.members part.map.items) node → IsStorage wide.graph node → l ≢ k
   other_part wide is l part node stood there storage same =
       let (was, free) = forgets_none (take gone.members gone.map.items) old new forgets wide is in
       let one : part ≡ gone = same_part parts k part gone (subst (λ n. Stands parts n part) same stood) stands in
       free (
         node,
-        subst (λ (it : HeldPart). Contains (take it.members it.map.items) node) one there,
+        subst (λ (it : MachinePart). Contains (take it.members it.map.items) node) one there,
         subst (λ known. IsStorage (graph_in known) node) (sym was) storage,
       )
 
@@ -132,7 +133,7 @@ module _ (parts : List HeldPart) (k : ℕ) (gone e : HeldPart) (stands : Stands 
         let same : l ≡ k = apart l k any.0 its mine in
         let written : part ≡ e =
         Stands-same parts k e stands.inside part (subst (λ n. Stands (slice_set parts k e) n part) same still) in
-        omega (arith, taken_some part any.0 there, ap (λ (it : HeldPart). it.members) written, vacant.members);
+        omega (arith, taken_some part any.0 there, ap (λ (it : MachinePart). it.members) written, vacant.members);
   }
 
   pub KeepsKnown-vacated : KeepsKnown parts (slice_set parts k e) old new
@@ -151,8 +152,8 @@ module _ (parts : List HeldPart) (k : ℕ) (gone e : HeldPart) (stands : Stands 
   }
 
 -- where each part stands that has a storage node of a graph, these are members of stale parts still
-pub HasStaleOnly-kept : (old new : List HeldPart) (g : GraphData) → HasStaleOnly old g →
-    ((k : ℕ) (part : HeldPart) (node : ℕ) → Stands old k part → Contains (take part.members part.map.items) node → IsStorage g node → Stands new k part) →
+pub HasStaleOnly-kept : (old new : List MachinePart) (g : GraphData) → HasStaleOnly old g →
+    ((k : ℕ) (part : MachinePart) (node : ℕ) → Stands old k part → Contains (take part.members part.map.items) node → IsStorage g node → Stands new k part) →
     HasStaleOnly new g
 HasStaleOnly-kept old new g only stays node storage =
     let (k, has, stale) = only node storage in
@@ -164,7 +165,7 @@ HasStaleOnly-kept old new g only stays node storage =
     )
 
 -- and the machine can go on with the groups that are known still
-pub holds_kept : (old new : List HeldPart) (state : List Tern) (room : ℕ) (a c : Option WideData) → KeepsKnown old new a c → HoldsWide old state room a →
+pub holds_kept : (old new : List MachinePart) (state : List Tern) (room : ℕ) (a c : Option WideData) → KeepsKnown old new a c → HoldsWide old state room a →
     HoldsWide new state room c
 holds_kept old new state room a None keeps holds = tt
 holds_kept old new state room a (Some wide) keeps holds =

@@ -2,14 +2,14 @@
 use Rattle.std.proofs.Common.{◌≡◌, ℕ, ◌<◌, ◌≤◌, inl, inr, List, length, take, None, Some, refl, sym, ap, subst, arith}
 use Rattle.std.specs.Prelude.{Contains, min, slice_index_or}
 use Rattle.std.proofs.lemmas.Bool.{cases_lt}
-use Rattle.path_meaning.specs.Graphs.{GraphData, IsStorage}
-use Rattle.path_meaning.specs.Rails.{IsRailed, IsSound}
+use Rattle.switch_paths.specs.Graphs.{GraphData, IsStorage}
+use Rattle.switch_paths.specs.Rails.{IsRailed, IsSound}
 use Rattle.group_meaning.specs.Groups.{Group, id_of}
 use Rattle.group_meaning.proofs.UniqueGroups.{id_member}
 use Rattle.vicinity.specs.Wides.{WideData}
 use Rattle.circuit_texts.specs.Sizes.{NoneRefused, fault_in, refused_in}
 use Rattle.circuit_texts.proofs.SizeLemmas.{fits_any, few_any, few_members}
-use Rattle.machine_parts.specs.declared.part.HeldPart.{HeldPart}
+use Rattle.machine_parts.specs.declared.part.MachinePart.{MachinePart}
 use Rattle.machine_parts.specs.Parts.{Stands}
 use Rattle.wide_groups.specs.Moving.{HasStaleOnly, graph_in}
 use Rattle.wide_groups.specs.Staying.{HoldsNode, lowered}
@@ -49,8 +49,8 @@ module _ (g : GraphData) (m : MachineData) (ready : IsReady g m) (railed : IsRai
   all_groups = ready.covers.groups.groups
 
   -- if each stale part is that of a group that is stepped by vicinities already, these groups are known as before, with this bound besides
-  module _ (known : (k : ℕ) (part : HeldPart) (group : Group) → Stands m.parts k part → part.code ≡ None → IsPartOf g group part → HoldsNode m.wide (id_of group)) where
-    held_still : (wide : WideData) → m.wide ≡ Some wide → (k : ℕ) (part : HeldPart) → Stands m.parts k part → 0 < part.members → part.code ≡ None →
+  module _ (known : (k : ℕ) (part : MachinePart) (group : Group) → Stands m.parts k part → part.code ≡ None → IsPartOf g group part → HoldsNode m.wide (id_of group)) where
+    held_still : (wide : WideData) → m.wide ≡ Some wide → (k : ℕ) (part : MachinePart) → Stands m.parts k part → 0 < part.members → part.code ≡ None →
         IsHeldIn g m.state (record wide { large = min wide.large large }) (slice_index_or m.uses k None) part
     held_still wide is k part stands some none =
         elim (ready.covers.held wide is k part stands some none) [
@@ -117,7 +117,7 @@ module _ (g : GraphData) (m : MachineData) (ready : IsReady g m) (railed : IsRai
         let of = (these.members node).0 (these.holds.storage node storage) in
         (of.k, of.has, of.stale)
 
-    held_part : (k : ℕ) (part : HeldPart) → Stands m.parts k part → 0 < part.members → part.code ≡ None →
+    held_part : (k : ℕ) (part : MachinePart) → Stands m.parts k part → 0 < part.members → part.code ≡ None →
         IsHeldIn g m.state wide (slice_index_or m.uses k None) part
     held_part k part stands some none =
         let (group, is_part) = ready.covers.whole k part stands some in

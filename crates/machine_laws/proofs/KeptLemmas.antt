@@ -4,8 +4,8 @@ use Rattle.std.specs.Prelude.{Contains, Option, slice_get, slice_index_or}
 use Rattle.std.proofs.lemmas.Bool.{cases_lt}
 use Rattle.std.proofs.lemmas.List.Elements.{All-push}
 use Rattle.std.proofs.lemmas.Option.{slice_get_read, slice_get_within, get_or_from_slice_get}
-use Rattle.path_meaning.specs.declared.switching.Switch.{Switch}
-use Rattle.path_meaning.specs.Graphs.{GraphData, IsWired, FitsPlace}
+use Rattle.switch_paths.specs.declared.switching.Switch.{Switch}
+use Rattle.switch_paths.specs.Graphs.{GraphData, IsWired, FitsPlace}
 use Rattle.group_meaning.specs.Groups.{Group, IsGroup, AreGroups, id_of}
 use Rattle.group_meaning.proofs.UniqueGroups.{id_member, same_by_member}
 use Rattle.group_meaning.proofs.GroupLemmas.{member_storage}
@@ -24,7 +24,7 @@ use Rattle.group_rest.specs.Rest.{Rests}
 use Rattle.group_rest.proofs.AlikeGroups.{alike_groups_have_one_text, alike_groups_rest_alike}
 use Rattle.analysis_cache.proofs.UseLemmas.{each_present}
 use Rattle.vicinity.specs.Wides.{WideData}
-use Rattle.machine_parts.specs.declared.part.HeldPart.{HeldPart}
+use Rattle.machine_parts.specs.declared.part.MachinePart.{MachinePart}
 use Rattle.machine_parts.specs.Parts.{Stands}
 use Rattle.machine_laws.specs.Machines.{MachineData, groups_in}
 use Rattle.machine_laws.specs.Fitting.{IsPartOf, IsHeldIn, Covers, FitsGraph, AreTold, IsKeptBy}
@@ -84,7 +84,8 @@ stale_told g m fits k part group stands stale is_part fit =
     held.told (subst (λ it. fault_in it ≡ None) (sym (one_group g held.group group part held.is_part is_part)) fit)
 
 -- so each part of a group with a text has it
-pub numbered_told : (g : GraphData) (m : MachineData) → Covers g m → AreTold g m → (k : ℕ) (part : HeldPart) (group : Group) → Stands m.parts k part →
+pub numbered_told : (g : GraphData) (m : MachineData) → Covers g m → AreTold g m → (k : ℕ) (part : MachinePart) (group : Group) →
+    Stands m.parts k part →
     IsPartOf g group part → fault_in group ≡ None → slice_index_or m.uses k None ≢ None
 numbered_told g m covers told k part group stands is_part fit =
     elim (known_or_not part.code) [
@@ -200,11 +201,11 @@ module _ (g : GraphData) (m : MachineData) (wired : IsWired g) (covers : Covers 
       }
 
   -- and its part is its part
-  more_part : (group : Group) (part : HeldPart) → IsPartOf g group part → IsPartOf more group part
+  more_part : (group : Group) (part : MachinePart) → IsPartOf g group part → IsPartOf more group part
   more_part group part is_part = alike_groups_keep_their_parts g more group part wired more_wired (more_alike group is_part.is_group) is_part
 
   -- each part was that of a group, with the same text
-  module _ (k : ℕ) (part : HeldPart) (stands : Stands m.parts k part) (group : Group) (is_part : IsPartOf more group part) where
+  module _ (k : ℕ) (part : MachinePart) (stands : Stands m.parts k part) (group : Group) (is_part : IsPartOf more group part) where
     was_part : (other : Group) × IsPartOf g other part × (other ≡ group)
     was_part =
         let (other, is_other) = covers.whole k part stands (omega (arith, is_part.count, is_part.is_group.some)) in
@@ -217,7 +218,7 @@ module _ (g : GraphData) (m : MachineData) (wired : IsWired g) (covers : Covers 
     text_before = (alike_groups_have_one_text g more group (more_alike group part_before.is_group)).1
 
   -- a group that is stepped by vicinities is held
-  more_held : (wide : WideData) (text : Option GroupTextData) (part : HeldPart) → IsHeldIn g m.state wide text part → IsHeldIn more m.state wide text part
+  more_held : (wide : WideData) (text : Option GroupTextData) (part : MachinePart) → IsHeldIn g m.state wide text part → IsHeldIn more m.state wide text part
   more_held wide text part held =
       let whole = more_alike held.group held.alike.here in
       record {

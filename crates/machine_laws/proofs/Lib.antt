@@ -19,6 +19,6 @@ pub mod RenewingLemmas
 pub mod CountingLemmas
 pub mod TouchedLemmas
 pub mod CoveringLemmas
-pub mod LastingGroups
+pub mod LastTextsGroups
 pub mod PartGroups
 pub mod HoldingGroups

@@ -1,8 +1,8 @@
 -- The members of a part of a group are those of the group.
 use Rattle.std.proofs.Common.{◌<◌, arith, ◌≡◌, ℕ, length, take, sym, ap, subst, ◌∙◌}
-use Rattle.path_meaning.specs.Graphs.{GraphData}
+use Rattle.switch_paths.specs.Graphs.{GraphData}
 use Rattle.group_meaning.specs.Groups.{Group, id_of}
-use Rattle.machine_parts.specs.declared.part.HeldPart.{HeldPart}
+use Rattle.machine_parts.specs.declared.part.MachinePart.{MachinePart}
 use Rattle.machine_laws.specs.Fitting.{IsPartOf}
 use Rattle.std.specs.Prelude.{slice_index, Contains}
 use Rattle.std.proofs.lemmas.List.{get_or_default, get_or-take, length-take}
@@ -11,10 +11,10 @@ use Rattle.group_meaning.proofs.UniqueGroups.{id_member, same_by_member}
 use Rattle.machine_parts.specs.Parts.{IsMemberAt}
 
 -- the part of a group has a member
-pub some_members : {g : GraphData} {group : Group} {part : HeldPart} → IsPartOf g group part → 0 < part.members
+pub some_members : {g : GraphData} {group : Group} {part : MachinePart} → IsPartOf g group part → 0 < part.members
 some_members is_part = omega (arith, is_part.count, is_part.is_group.some)
 
-module _ (g : GraphData) (group : Group) (part : HeldPart) (is_part : IsPartOf g group part) where
+module _ (g : GraphData) (group : Group) (part : MachinePart) (is_part : IsPartOf g group part) where
   -- the member of the part at a place is that of the group
   pub member_from_part : (place node : ℕ) → IsMemberAt part place node → slice_index group.members place ≡ node
   member_from_part place node member =
@@ -46,7 +46,7 @@ module _ (g : GraphData) (group : Group) (part : HeldPart) (is_part : IsPartOf g
       )
 
 -- a part is that of one group
-pub one_group : (g : GraphData) (one two : Group) (part : HeldPart) → IsPartOf g one part → IsPartOf g two part → one ≡ two
+pub one_group : (g : GraphData) (one two : Group) (part : MachinePart) → IsPartOf g one part → IsPartOf g two part → one ≡ two
 one_group g one two part is_one is_two =
     let first : Contains one.members (id_of one) = id_member g one is_one.is_group in
     let second : Contains two.members (id_of one) =

@@ -6,15 +6,15 @@ use Rattle.std.proofs.lemmas.Bool.{cases_lt}
 use Rattle.std.proofs.lemmas.List.{get_or-set_other, length-set}
 use Rattle.ternary.specs.declared.tern.Tern.{Tern}
 use Rattle.ternary.specs.declared.tern.Tern.TheVariants.{Zero}
-use Rattle.path_meaning.specs.Switching.{state_at}
-use Rattle.path_meaning.specs.Graphs.{GraphData, IsWired}
-use Rattle.path_meaning.specs.Step.{IsResponse}
+use Rattle.switch_paths.specs.Switching.{state_at}
+use Rattle.switch_paths.specs.Graphs.{GraphData, IsWired}
+use Rattle.switch_paths.specs.Step.{IsResponse}
 use Rattle.group_meaning.specs.Groups.{Group}
 use Rattle.group_text.specs.Texts.{GroupTextData}
 use Rattle.circuit_texts.specs.Sizes.{refused_in}
 use Rattle.group_rest.specs.Rest.{Rests, Responded, ReadsNoChange}
 use Rattle.group_rest.proofs.RestingGroups.{unread_group_rests}
-use Rattle.machine_parts.specs.declared.part.HeldPart.{HeldPart}
+use Rattle.machine_parts.specs.declared.part.MachinePart.{MachinePart}
 use Rattle.group_rest.specs.Alike.{IsAlike}
 use Rattle.vicinity.specs.Touching.{RestsAsleep}
 use Rattle.vicinity.specs.Wides.{WideData, PlacesWide}
@@ -40,7 +40,7 @@ module _ (g : GraphData) (wired : IsWired g) (node : ℕ) (value : Tern) (old ne
   others_stay : (other : ℕ) → other ≢ node → state_at new.state other ≡ state_at old.state other
   others_stay other differs = ap (λ state. state_at state other) places.state ∙ get_or-set_other old.state node other value Zero differs
 
-  module _ (k : ℕ) (part : HeldPart) (stands : Stands old.parts k part) (unmarked : ¬ IsMarked new.marks k) (some : 0 < part.members)
+  module _ (k : ℕ) (part : MachinePart) (stands : Stands old.parts k part) (unmarked : ¬ IsMarked new.marks k) (some : 0 < part.members)
       (group : Group) (is_part : IsPartOf g group part) where
     -- the part wasn't marked before
     before : ¬ IsMarked old.marks k
@@ -65,7 +65,8 @@ module _ (g : GraphData) (wired : IsWired g) (node : ℕ) (value : Tern) (old ne
         others_stay other differs
 
   -- so they rest
-  part_rests : (k : ℕ) (part : HeldPart) → Stands old.parts k part → (¬ IsMarked new.marks k) → Rests g new.state (take part.members part.map.items)
+  part_rests : (k : ℕ) (part : MachinePart) → Stands old.parts k part → (¬ IsMarked new.marks k) →
+      Rests g new.state (take part.members part.map.items)
   part_rests k part stands unmarked =
       elim (cases_lt 0 part.members) [
         | inl some ↦
@@ -77,7 +78,7 @@ module _ (g : GraphData) (wired : IsWired g) (node : ℕ) (value : Tern) (old ne
       ]
 
   -- a group that is stepped by vicinities rests again but for what is awake
-  held_placed : (before_it one : WideData) → PlacesWide node before_it one old.state new.state → (text : Option GroupTextData) (part : HeldPart) →
+  held_placed : (before_it one : WideData) → PlacesWide node before_it one old.state new.state → (text : Option GroupTextData) (part : MachinePart) →
       IsHeldIn g old.state before_it text part → IsHeldIn g new.state one text part
   held_placed before_it one placed text part held =
       let same = placed.stays.graph in
@@ -92,7 +93,7 @@ module _ (g : GraphData) (wired : IsWired g) (node : ℕ) (value : Tern) (old ne
       }
 
   -- and a part that waits has no member of such a group still
-  held_again : (one : WideData) → new.wide ≡ Some one → (k : ℕ) (part : HeldPart) → Stands old.parts k part → 0 < part.members → part.code ≡ None →
+  held_again : (one : WideData) → new.wide ≡ Some one → (k : ℕ) (part : MachinePart) → Stands old.parts k part → 0 < part.members → part.code ≡ None →
       IsHeldIn g new.state one (slice_index_or old.uses k None) part ⊎ IsOutside one.graph part
   held_again one is k part stands some none =
       let (before_it, was, placed) = placed_wide node old.wide new.wide old.state new.state places.wide one is in

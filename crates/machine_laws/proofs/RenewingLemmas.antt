@@ -6,13 +6,13 @@ use Rattle.std.specs.List.Sorted.{IsStrictlyIncreasing}
 use Rattle.std.proofs.lemmas.List.{take_all, get_or_default}
 use Rattle.std.proofs.lemmas.List.Elements.{All-contains, Contains-push, Contains-push_cases, Contains-append_left, Contains-append_right, Contains-append_cases}
 use Rattle.std.proofs.lemmas.Bool.Decides.{Decides-eqb}
-use Rattle.path_meaning.specs.Graphs.{GraphData, nodes}
+use Rattle.switch_paths.specs.Graphs.{GraphData, nodes}
 use Rattle.group_meaning.specs.Groups.{Group, IsGroup, AreGroups, id_of}
 use Rattle.group_meaning.proofs.GroupLemmas.{member_storage}
 use Rattle.group_meaning.proofs.UniqueGroups.{same_by_id, same_by_member}
 use Rattle.channel_groups.specs.Grouping.{has_member, group_with}
 use Rattle.channel_groups.proofs.HeldLemmas.{has_member-from, has_member-Contains}
-use Rattle.machine_parts.specs.declared.part.HeldPart.{HeldPart}
+use Rattle.machine_parts.specs.declared.part.MachinePart.{MachinePart}
 use Rattle.machine_parts.specs.Parts.{Stands, HasMember}
 use Rattle.machine_laws.specs.Machines.{MachineData}
 use Rattle.machine_laws.specs.Seating.{Renews, IsStalePartOf, HasAny, HasStale, IsNew, IsWithAny, members_in, RenewsAll, RenewsAt}
@@ -36,7 +36,7 @@ any_cases nodes node group has =
       | inr last ↦ inr (subst (Contains group.members) (sym last) has.member)
     ]
 
-module _ (members : List ℕ) (parts : List HeldPart) (k : ℕ) (part : HeldPart) (stands : Stands parts k part) (is_new : IsStalePartOf members part) where
+module _ (members : List ℕ) (parts : List MachinePart) (k : ℕ) (part : MachinePart) (stands : Stands parts k part) (is_new : IsStalePartOf members part) where
   few_members : part.members ≤ length part.map.items
   few_members = omega (arith, is_new.members, ap length is_new.map)
 
@@ -209,10 +209,10 @@ module _ (g : GraphData) (groups : List Group) (are : AreGroups g groups) where
   }
 
   module _ (nodes : List ℕ) (node : ℕ) (old mid : MachineData) (free : (k : ℕ) → ¬ HasMember old.parts k node) (first : RenewsAll groups nodes old mid) where
-    newer : (part : HeldPart) → IsNew groups nodes part → IsNew groups (nodes ++ node ∷ []) part
+    newer : (part : MachinePart) → IsNew groups nodes part → IsNew groups (nodes ++ node ∷ []) part
     newer part is = record { group = is.group; there = is.there; has = any_before nodes node is.group is.has; is_new = is.is_new }
 
-    was_more : (k : ℕ) (part : HeldPart) → Stands mid.parts k part → 0 < part.members →
+    was_more : (k : ℕ) (part : MachinePart) → Stands mid.parts k part → 0 < part.members →
         Stands old.parts k part ⊎ ((length old.parts ≤ k) × IsNew groups (nodes ++ node ∷ []) part)
     was_more k part stands some =
         elim (first.was k part stands some) [
@@ -271,7 +271,7 @@ module _ (g : GraphData) (groups : List Group) (are : AreGroups g groups) where
         is_new = has.is_new;
       }
 
-      stood_before : (k : ℕ) (part : HeldPart) → Stands new.parts k part → k < length mid.parts → 0 < part.members → Stands mid.parts k part
+      stood_before : (k : ℕ) (part : MachinePart) → Stands new.parts k part → k < length mid.parts → 0 < part.members → Stands mid.parts k part
       stood_before k part stands inside some =
           elim (then.was k part stands some) [
             | inl before ↦ before

@@ -5,24 +5,24 @@ use Rattle.std.specs.Prelude.{slice_index, slice_index_or, Contains}
 use Rattle.std.proofs.lemmas.Option.{slice_get_read}
 use Rattle.ternary.specs.declared.tern.Tern.{Tern}
 use Rattle.strength_order.specs.declared.TheConstants.{INPUT_LEVEL}
-use Rattle.path_meaning.specs.Switching.{state_at}
-use Rattle.path_meaning.specs.Graphs.{GraphData, IsWired, IsStorage, nodes, level_of}
-use Rattle.path_meaning.specs.Step.{IsResponse}
+use Rattle.switch_paths.specs.Switching.{state_at}
+use Rattle.switch_paths.specs.Graphs.{GraphData, IsWired, IsStorage, nodes, level_of}
+use Rattle.switch_paths.specs.Step.{IsResponse}
 use Rattle.group_meaning.proofs.GroupLemmas.{member_storage, storage_or_input}
 use Rattle.group_text.specs.Texts.{local_nodes, local_state}
-use Rattle.path_meaning.proofs.InputNodes.{input_response}
+use Rattle.switch_paths.proofs.InputNodes.{input_response}
 use Rattle.straight_code.specs.Code.{code_value}
 use Rattle.group_analysis.proofs.ResponseLemmas.{given_response}
 use Rattle.std.specs.declared.rc.Rc.{Rc}
 use Rattle.straight_code.specs.Code.{CodeData}
-use Rattle.path_meaning.proofs.ExistingSteps.{exists}
-use Rattle.path_meaning.proofs.UniqueSteps.{response_is_unique}
+use Rattle.switch_paths.proofs.ExistingSteps.{exists}
+use Rattle.switch_paths.proofs.UniqueSteps.{response_is_unique}
 use Rattle.vicinity.specs.Touching.{IsAwake}
 use Rattle.vicinity.specs.Wides.{WideData}
 use Rattle.vicinity.proofs.SleepingNodes.{same_tern}
 use Rattle.wide_groups.specs.Moving.{graph_in, IsAwakeIn, MovesIn}
 use Rattle.wide_groups.proofs.WideCases.{awake_stale}
-use Rattle.machine_parts.specs.declared.part.HeldPart.{HeldPart}
+use Rattle.machine_parts.specs.declared.part.MachinePart.{MachinePart}
 use Rattle.machine_parts.specs.Parts.{Stands, IsMemberAt, HasMember, IsStale}
 use Rattle.machine_laws.specs.Machines.{MachineData}
 use Rattle.machine_parts.specs.Marking.{IsMarked}
@@ -100,7 +100,7 @@ module _ (g : GraphData) (wired : IsWired g) (m : MachineData) (fits : FitsGraph
       let gives = given.gives in
       let same = fits.covers.apart given.k k node (HasMember-from_Gives m.parts m.state given.k node value gives) has in
       let part = same_part m.parts k stale.part gives.part stale.stands (subst (λ l. Stands m.parts l gives.part) same gives.stands) in
-      absurd (cc (ap (λ (p : HeldPart). p.code) part, stale.none, gives.has))
+      absurd (cc (ap (λ (p : MachinePart). p.code) part, stale.none, gives.has))
 
   -- an input node is given nothing
   nothing_to_input : (node : ℕ) → level_of g node ≡ INPUT_LEVEL → (value : Tern) → ¬ IsGiven m.parts m.marks m.state node value

@@ -6,7 +6,7 @@ use Rattle.std.proofs.lemmas.List.{get_or-set_same, get_or-set_other, get_or_def
 use Rattle.std.proofs.lemmas.List.Elements.{All-push}
 use Rattle.std.proofs.lemmas.List.Sums.{sum_by-set, sum_by_push}
 use Rattle.smallvec.specs.SmallVec.{SmallVec}
-use Rattle.machine_parts.specs.declared.part.HeldPart.{HeldPart}
+use Rattle.machine_parts.specs.declared.part.MachinePart.{MachinePart}
 use Rattle.machine_parts.specs.Parts.{Stands, HasMember, ReadsAt, IsStale}
 use Rattle.machine_parts.specs.Marking.{IsMarked, members_of}
 use Rattle.machine_parts.specs.Evaluating.{Rooms, IsSeated}
@@ -22,20 +22,20 @@ use Rattle.machine_parts.proofs.MachineLemmas.{HaveSameReaders-refl, IsMachine-w
 use Rattle.machine_laws.proofs.SlotLemmas.{written, has_not_k, reads_not_k, stale_not_k, HasMember-was, ReadsAt-was, IsStale-was, HasMember-other, ReadsAt-other, IsStale-other, pushed, Stands-before, Stands-last, Stands-cases}
 
 -- the members of a part are there
-pub members_there : (count : ℕ) (part : HeldPart) → All (λ node. node < count) part.map.items → All (λ node. node < count) (take part.members part.map.items)
+pub members_there : (count : ℕ) (part : MachinePart) → All (λ node. node < count) part.map.items → All (λ node. node < count) (take part.members part.map.items)
 members_there count part below i d inside =
     let first : i < length part.map.items = omega (arith, inside, length-take part.members part.map.items) in
     let before : i < part.members = omega (arith, inside, length-take part.members part.map.items) in
     subst (λ node. node < count) (sym (get_or-take part.members part.map.items i d before)) (below i d first)
 
-module _ (parts : List HeldPart) (marks waiting : List Bool) (count : ℕ) (lists : List (SmallVec ℕ)) (owners numbers : List (Option ℕ)) (held most : ℕ)
+module _ (parts : List MachinePart) (marks waiting : List Bool) (count : ℕ) (lists : List (SmallVec ℕ)) (owners numbers : List (Option ℕ)) (held most : ℕ)
     (room : Rooms) (machine : IsMachine parts marks waiting count lists owners numbers held most room) where
   -- a part is seated
-  pub seat_of : (k : ℕ) (part : HeldPart) → Stands parts k part → IsSeated count room part
+  pub seat_of : (k : ℕ) (part : MachinePart) → Stands parts k part → IsSeated count room part
   seat_of k part stands = subst (IsSeated count room) stands.here (machine.runs.seated k part stands.inside)
 
   -- what a part reads is there
-  pub reads_there : (k : ℕ) (part : HeldPart) → Stands parts k part → All (λ node. node < count) part.reads.items
+  pub reads_there : (k : ℕ) (part : MachinePart) → Stands parts k part → All (λ node. node < count) part.reads.items
   reads_there k part stands i d inside =
       let node = get_or part.reads.items i d in
       let among : Contains part.reads.items node = (i, inside, get_or_default part.reads.items i node d inside) in
@@ -51,7 +51,7 @@ module _ (parts : List HeldPart) (marks waiting : List Bool) (count : ℕ) (list
                 absurd (omega (arith, within, ap length none))
           ]
 
-  module _ (k : ℕ) (part : HeldPart) (stands : Stands parts k part) (e : HeldPart) (vacant : IsVacant e) (lists' : List (SmallVec ℕ))
+  module _ (k : ℕ) (part : MachinePart) (stands : Stands parts k part) (e : MachinePart) (vacant : IsVacant e) (lists' : List (SmallVec ℕ))
       (owners' : List (Option ℕ)) (disowns : Disowns (take part.members part.map.items) owners owners')
       (unlists : Unlists k part.reads.items lists lists') (held' most' : ℕ) (held_is : held' + one_of part ≡ held)
       (most_is : most' + part.members ≡ most) where
@@ -90,7 +90,7 @@ module _ (parts : List HeldPart) (marks waiting : List Bool) (count : ℕ) (list
           λ same.
               let reads_k = subst (λ n. ReadsAt parts n node) same reads in
               let is = same_part parts k reads_k.part part reads_k.stands stands in
-              let among = subst (λ (p : HeldPart). Contains p.reads.items node) is reads_k.reads in
+              let among = subst (λ (p : MachinePart). Contains p.reads.items node) is reads_k.reads in
               unlists.gone node among (subst (Contains (readers_of lists' node)) same there),
         )
 
@@ -156,7 +156,7 @@ module _ (parts : List HeldPart) (marks waiting : List Bool) (count : ℕ) (list
       IsMachine-with parts marks marks waiting count lists lists owners numbers numbers' held most room room' refl (HaveSameReaders-refl lists) more
       (omega (arith, values)) changes parts_more machine
 
-  module _ (members : List ℕ) (e : HeldPart) (is_new : IsStalePartOf members e) (some : 0 < length members)
+  module _ (members : List ℕ) (e : MachinePart) (is_new : IsStalePartOf members e) (some : 0 < length members)
       (inside : All (λ node. node < count) members)
       (once : (i j : ℕ) → i < length members → j < length members → slice_index members i ≡ slice_index members j → i ≡ j)
       (free : (k node : ℕ) → Contains members node → ¬ HasMember parts k node) (owners' : List (Option ℕ))
@@ -257,7 +257,7 @@ module _ (parts : List HeldPart) (marks waiting : List Bool) (count : ℕ) (list
                 elim (Stands-cases parts e l reads.part reads.stands) [
                   | inl before ↦ machine.runs.readers node l (record { part = reads.part; stands = before; reads = reads.reads })
                   | inr (last, is) ↦
-                      let (i, within, here) = subst (λ xs. Contains xs node) (ap (λ (part : HeldPart). part.reads.items) is ∙ is_new.reads) reads.reads in
+                      let (i, within, here) = subst (λ xs. Contains xs node) (ap (λ (part : MachinePart). part.reads.items) is ∙ is_new.reads) reads.reads in
                       absurd (omega (arith, within))
                 ];
             reads = λ node l there.

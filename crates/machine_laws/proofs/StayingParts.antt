@@ -7,7 +7,7 @@ use Rattle.std.proofs.lemmas.List.{get_or_default}
 use Rattle.std.proofs.lemmas.List.Sums.{sum_by-cons}
 use Rattle.std.proofs.lemmas.Option.{slice_get_read, slice_get_within, get_or_from_slice_get}
 use Rattle.smallvec.specs.SmallVec.{SmallVec}
-use Rattle.path_meaning.specs.Graphs.{GraphData, IsStorage}
+use Rattle.switch_paths.specs.Graphs.{GraphData, IsStorage}
 use Rattle.group_meaning.specs.Groups.{Group, IsGroup, id_of}
 use Rattle.group_meaning.proofs.UniqueGroups.{id_member}
 use Rattle.group_meaning.proofs.GroupLemmas.{member_storage}
@@ -15,7 +15,7 @@ use Rattle.group_rest.specs.Alike.{IsAlike}
 use Rattle.group_text.specs.Texts.{GroupTextData, text_of_group}
 use Rattle.circuit_texts.specs.Sizes.{fault_in, refused_in}
 use Rattle.circuit_texts.proofs.PairedLists.{partner_first}
-use Rattle.machine_parts.specs.declared.part.HeldPart.{HeldPart}
+use Rattle.machine_parts.specs.declared.part.MachinePart.{MachinePart}
 use Rattle.machine_parts.specs.Parts.{Stands, IsMemberAt, HasMember, ReadsAt, IsStale, AreApart, has_members}
 use Rattle.machine_laws.specs.Machines.{MachineData}
 use Rattle.machine_parts.specs.Marking.{IsMarked, members_of}
@@ -34,14 +34,14 @@ use Rattle.machine_parts.proofs.PartLemmas.{same_part}
 use Rattle.machine_laws.proofs.PartGroups.{one_group, member_of_part, member_from_part, place_in_group, some_members}
 use Rattle.machine_laws.proofs.HeldParts.{member_taken}
 use Rattle.machine_laws.proofs.HeldLemmas.{known_or_not}
-use Rattle.machine_laws.proofs.LastingGroups.{first_member}
+use Rattle.machine_laws.proofs.LastTextsGroups.{first_member}
 use Rattle.machine_parts.proofs.MakingLemmas.{IsSeated-formed}
 use Rattle.machine_parts.proofs.MachineLemmas.{IsSeated-wider, IsMachine-with}
 use Rattle.machine_parts.proofs.NumberLists.{one_or_none}
 
 -- sums over lists that are worth the same place by place
-same_sums : (f : HeldPart → ℕ) (xs ys : List HeldPart) → length ys ≡ length xs →
-    ((k : ℕ) (x y : HeldPart) → slice_get xs k ≡ Some x → slice_get ys k ≡ Some y → f y ≡ f x) → sum_by f ys ≡ sum_by f xs
+same_sums : (f : MachinePart → ℕ) (xs ys : List MachinePart) → length ys ≡ length xs →
+    ((k : ℕ) (x y : MachinePart) → slice_get xs k ≡ Some x → slice_get ys k ≡ Some y → f y ≡ f x) → sum_by f ys ≡ sum_by f xs
 same_sums f [] [] counted same = refl
 same_sums f [] (y ∷ ys) counted same = absurd (omega (arith, counted))
 same_sums f (x ∷ xs) [] counted same = absurd (omega (arith, counted))
@@ -55,19 +55,19 @@ same_sums f (x ∷ xs) (y ∷ ys) counted same =
     )
 
 -- a part stands where the list has it
-pub Stands-at : (parts : List HeldPart) (k : ℕ) (part : HeldPart) → slice_get parts k ≡ Some part → Stands parts k part
+pub Stands-at : (parts : List MachinePart) (k : ℕ) (part : MachinePart) → slice_get parts k ≡ Some part → Stands parts k part
 Stands-at parts k part at = record { inside = slice_get_within parts k part at; here = get_or_from_slice_get parts k part part at }
 
-pub at-Stands : (parts : List HeldPart) (k : ℕ) (part : HeldPart) → Stands parts k part → slice_get parts k ≡ Some part
+pub at-Stands : (parts : List MachinePart) (k : ℕ) (part : MachinePart) → Stands parts k part → slice_get parts k ≡ Some part
 at-Stands parts k part stands = slice_get_read parts (length parts) k part refl stands.inside (sym stands.here)
 
-pub part_here : (parts : List HeldPart) (k : ℕ) → k < length parts → (part : HeldPart) × Stands parts k part
+pub part_here : (parts : List MachinePart) (k : ℕ) → k < length parts → (part : MachinePart) × Stands parts k part
 part_here [] k inside = absurd (omega (arith, inside))
 part_here (part ∷ parts) k inside =
     (get_or (part ∷ parts) k part, record { inside = inside; here = get_or_default (part ∷ parts) k _ part inside })
 
--- a machine with a wider desk, whose nodes have the same readers, can run
-pub IsMachine-wider : (parts : List HeldPart) (marks waiting : List Bool) (count : ℕ) (lists new_lists : List (SmallVec ℕ)) (owners numbers new_numbers : List (Option ℕ))
+-- a machine with a wider workspace, whose nodes have the same readers, can run
+pub IsMachine-wider : (parts : List MachinePart) (marks waiting : List Bool) (count : ℕ) (lists new_lists : List (SmallVec ℕ)) (owners numbers new_numbers : List (Option ℕ))
     (held most : ℕ) (room wide : Rooms) → room.values ≤ wide.values → wide.changes ≡ room.changes → wide.parts ≡ room.parts →
     new_numbers ≡ numbers → HaveSameReaders lists new_lists → IsMachine parts marks waiting count lists owners numbers held most room →
     IsMachine parts marks waiting count new_lists owners new_numbers held most wide
@@ -76,13 +76,13 @@ IsMachine-wider parts marks waiting count lists new_lists owners numbers new_num
     (omega (arith, ap length numbers_are)) values (omega (arith, changes)) (omega (arith, parts_are)) machine
 
 -- a part that stays: it isn't in a slot, and if it is stale and its group has a text it has it
-pub record StaysAt (g : GraphData) (old : List HeldPart) (uses : List (Option GroupTextData)) (slots : List ℕ) (k : ℕ) (part : HeldPart) : Type 0 where
+pub record StaysAt (g : GraphData) (old : List MachinePart) (uses : List (Option GroupTextData)) (slots : List ℕ) (k : ℕ) (part : MachinePart) : Type 0 where
   pub stands : Stands old k part
   pub no_slot : ¬ Contains slots k
   pub told : (group : Group) → part.code ≡ None → IsPartOf g group part → fault_in group ≡ None → slice_index_or uses k None ≢ None
 
 -- a part that came in the place of a stale one
-pub record ComesAt (g : GraphData) (old : List HeldPart) (some : List Group) (slots : List ℕ) (fresh : List HeldPart) (k : ℕ) (part : HeldPart) : Type 0 where
+pub record ComesAt (g : GraphData) (old : List MachinePart) (some : List Group) (slots : List ℕ) (fresh : List MachinePart) (k : ℕ) (part : MachinePart) : Type 0 where
   pub i : ℕ
   pub slot : slice_get slots i ≡ Some k
   pub there : slice_get fresh i ≡ Some part
@@ -92,9 +92,9 @@ pub record ComesAt (g : GraphData) (old : List HeldPart) (some : List Group) (sl
   pub is : IsFresh g group part
 
 module _ (g : GraphData) (m : MachineData) (covers : Covers g m) (groups some : List Group) (slots : List ℕ) (waiting : AreWaiting g m.parts m.uses groups some slots)
-    (fresh : List HeldPart) (fresh_are : AllZip (IsFresh g) some fresh) (new : List HeldPart) (puts : Puts slots fresh m.parts new) where
+    (fresh : List MachinePart) (fresh_are : AllZip (IsFresh g) some fresh) (new : List MachinePart) (puts : Puts slots fresh m.parts new) where
   -- each part stays or comes
-  pub stays_or_comes : (k : ℕ) (part : HeldPart) → Stands new k part → StaysAt g m.parts m.uses slots k part ⊎ ComesAt g m.parts some slots fresh k part
+  pub stays_or_comes : (k : ℕ) (part : MachinePart) → Stands new k part → StaysAt g m.parts m.uses slots k part ⊎ ComesAt g m.parts some slots fresh k part
   stays_or_comes k part stands =
       elim (one_or_none slots k) [
         | inl there ↦
@@ -128,7 +128,7 @@ module _ (g : GraphData) (m : MachineData) (covers : Covers g m) (groups some : 
             })
       ]
 
-  new_at : (k : ℕ) (was : HeldPart) → Stands m.parts k was → (part : HeldPart) × Stands new k part
+  new_at : (k : ℕ) (was : MachinePart) → Stands m.parts k was → (part : MachinePart) × Stands new k part
   new_at k was stands = part_here new k (omega (arith, stands.inside, puts.count))
 
   -- the members are the same
@@ -161,13 +161,13 @@ module _ (g : GraphData) (m : MachineData) (covers : Covers g m) (groups some : 
             record { part = part; stands = stands; place = place; member = now }
       ]
 
-  members_same : (k : ℕ) (was part : HeldPart) → slice_get m.parts k ≡ Some was → slice_get new k ≡ Some part → part.members ≡ was.members
+  members_same : (k : ℕ) (was part : MachinePart) → slice_get m.parts k ≡ Some was → slice_get new k ≡ Some part → part.members ≡ was.members
   members_same k was part was_at at =
       let stood = Stands-at m.parts k was was_at in
       elim (stays_or_comes k part (Stands-at new k part at)) [
-        | inl stays ↦ ap (λ (one : HeldPart). one.members) (same_part m.parts k part was stays.stands stood)
+        | inl stays ↦ ap (λ (one : MachinePart). one.members) (same_part m.parts k part was stays.stands stood)
         | inr comes ↦
-            let same = ap (λ (one : HeldPart). one.members) (same_part m.parts k comes.was.part was comes.was.stands stood) in
+            let same = ap (λ (one : MachinePart). one.members) (same_part m.parts k comes.was.part was comes.was.stands stood) in
             omega (arith, comes.is.is_part.count, comes.was.is_part.count, same)
       ]
 
@@ -225,7 +225,7 @@ module _ (g : GraphData) (m : MachineData) (covers : Covers g m) (groups some : 
                 let one = one_place has.i comes.i k has.slot comes.slot in
                 let both : Some has.part ≡ Some stale.part = sym has.there ∙ (ap (slice_get fresh) one ∙ comes.there) in
                 let same : has.part ≡ stale.part = cc in
-                has.coded (ap (λ (part : HeldPart). part.code) same ∙ stale.none),
+                has.coded (ap (λ (part : MachinePart). part.code) same ∙ stale.none),
           )
         ]
 
@@ -238,8 +238,8 @@ module _ (g : GraphData) (m : MachineData) (covers : Covers g m) (groups some : 
               record {
                 part = part;
                 stands = stands;
-                some = subst (λ (one : HeldPart). 0 < one.members) (sym same) stale.some;
-                none = ap (λ (one : HeldPart). one.code) same ∙ stale.none;
+                some = subst (λ (one : MachinePart). 0 < one.members) (sym same) stale.some;
+                none = ap (λ (one : MachinePart). one.code) same ∙ stale.none;
               }
           | inr comes ↦
               elim (known_or_not part.code) [
@@ -273,11 +273,11 @@ module _ (g : GraphData) (m : MachineData) (covers : Covers g m) (groups some : 
               elim (stays_or_comes k part stands) [
                 | inl stays ↦
                     let same = same_part m.parts k was.part part was.stands stays.stands in
-                    record { part = part; stands = stands; reads = subst (λ (one : HeldPart). Contains one.reads.items node) same was.reads }
+                    record { part = part; stands = stands; reads = subst (λ (one : MachinePart). Contains one.reads.items node) same was.reads }
                 | inr comes ↦
                     let same = same_part m.parts k was.part comes.was.part was.stands comes.was.stands in
                     let none = covers.quiet k comes.was.part comes.was.stands comes.was.stale in
-                    let (n, inside, here) = subst (λ xs. Contains xs node) none (subst (λ (one : HeldPart). Contains one.reads.items node) same was.reads) in
+                    let (n, inside, here) = subst (λ xs. Contains xs node) none (subst (λ (one : MachinePart). Contains one.reads.items node) same was.reads) in
                     absurd (omega (arith, inside))
               ]
           | inr how ↦
@@ -286,7 +286,7 @@ module _ (g : GraphData) (m : MachineData) (covers : Covers g m) (groups some : 
               let one = one_place how.i i k how.slot place in
               let both : Some how.part ≡ Some x = sym how.there ∙ (ap (slice_get fresh) one ∙ item) in
               let same : how.part ≡ x = cc in
-              record { part = x; stands = Stands-at new k x put; reads = subst (λ (p : HeldPart). Contains p.reads.items node) same how.reads }
+              record { part = x; stands = Stands-at new k x put; reads = subst (λ (p : MachinePart). Contains p.reads.items node) same how.reads }
         ]
 
     pub IsRunnable-new : All (IsFormed count) fresh → All (IsCodeRoom wide.values) fresh →
@@ -324,7 +324,7 @@ module _ (g : GraphData) (m : MachineData) (covers : Covers g m) (groups some : 
 
   -- no part whose group is stepped by vicinities gets code
   module _ (coded : List ℕ) (coded_are : (k : ℕ) → Contains coded k ↔ HasCodeIn slots fresh k) (free : LoosensHeld m.wide fresh) where
-    coded_outside : (wide : WideData) → m.wide ≡ Some wide → (k : ℕ) → Contains coded k → (part : HeldPart) → Stands m.parts k part →
+    coded_outside : (wide : WideData) → m.wide ≡ Some wide → (k : ℕ) → Contains coded k → (part : MachinePart) → Stands m.parts k part →
         IsOutside wide.graph part
     coded_outside wide is k there part stands =
         let has = (coded_are k).0 there in
@@ -346,8 +346,8 @@ module _ (g : GraphData) (m : MachineData) (covers : Covers g m) (groups some : 
         ]
 
     -- and those that go on waiting have the members of these groups
-    pub stale_only_roused : (wide : WideData) → m.wide ≡ Some wide → HasStaleOnly new wide.graph
-    stale_only_roused wide is node storage =
+    pub stale_only_readied : (wide : WideData) → m.wide ≡ Some wide → HasStaleOnly new wide.graph
+    stale_only_readied wide is node storage =
         let (k, has, stale) = covers.stale_only wide is node storage in
         elim (one_or_none coded k) [
           | inl there ↦
@@ -361,17 +361,17 @@ module _ (g : GraphData) (m : MachineData) (covers : Covers g m) (groups some : 
       (uses_come : (i k : ℕ) (group : Group) → slice_get slots i ≡ Some k → slice_get some i ≡ Some group →
       slice_index_or uses k None ≡ Some (text_of_group g group))
       (fit : All (λ group. fault_in group ≡ None) some) (texts : ℕ) where
-    abbrev pub roused : MachineData
-    roused = record m { parts = new; uses = uses; texts = texts }
+    abbrev pub readied : MachineData
+    readied = record m { parts = new; uses = uses; texts = texts }
 
     -- a part that came has its text
-    comes_told : (k : ℕ) (part : HeldPart) → ComesAt g m.parts some slots fresh k part → slice_index_or uses k None ≢ None
+    comes_told : (k : ℕ) (part : MachinePart) → ComesAt g m.parts some slots fresh k part → slice_index_or uses k None ≢ None
     comes_told k part comes none =
         let both : Some (text_of_group g comes.group) ≡ None = sym (uses_come comes.i k comes.group comes.slot comes.group_at) ∙ none in
         absurd cc
 
     -- so each stale part whose group has a text has one
-    pub told_new : AreTold g roused
+    pub told_new : AreTold g readied
     told_new k part group stands none is_part fits lacks =
         elim (stays_or_comes k part stands) [
           | inl stays ↦ stays.told group none is_part fits (sym (uses_stay k stays.no_slot) ∙ lacks)
@@ -379,7 +379,7 @@ module _ (g : GraphData) (m : MachineData) (covers : Covers g m) (groups some : 
         ]
 
     -- a part that was held in its place is held
-    comes_held : (wide : WideData) → m.wide ≡ Some wide → (k : ℕ) (part : HeldPart) → ComesAt g m.parts some slots fresh k part →
+    comes_held : (wide : WideData) → m.wide ≡ Some wide → (k : ℕ) (part : MachinePart) → ComesAt g m.parts some slots fresh k part →
         IsHeldIn g m.state wide (slice_index_or uses k None) part ⊎ IsOutside wide.graph part
     comes_held wide is k part comes =
         elim (covers.held wide is k comes.was.part comes.was.stands (some_members comes.was.is_part) comes.was.stale) [
@@ -399,8 +399,8 @@ module _ (g : GraphData) (m : MachineData) (covers : Covers g m) (groups some : 
         ]
 
     module _ (coded : List ℕ) (coded_are : (k : ℕ) → Contains coded k ↔ HasCodeIn slots fresh k) (free : LoosensHeld m.wide fresh) where
-      pub Covers-roused : Covers g roused
-      Covers-roused = record {
+      pub Covers-readied : Covers g readied
+      Covers-readied = record {
         groups = covers.groups;
         kept = covers.kept;
         are = covers.are;
@@ -468,7 +468,7 @@ module _ (g : GraphData) (m : MachineData) (covers : Covers g m) (groups some : 
               | inl stays ↦ covers.rests k part stays.stands unmarked
               | inr comes ↦ absurd (unmarked (covers.waits k comes.was.part comes.was.stands (some_members comes.was.is_part) comes.was.stale))
             ];
-        stale_only = stale_only_roused coded coded_are free;
+        stale_only = stale_only_readied coded coded_are free;
         held = λ wide is k part stands has none.
             elim (stays_or_comes k part stands) [
               | inl stays ↦
@@ -481,12 +481,12 @@ module _ (g : GraphData) (m : MachineData) (covers : Covers g m) (groups some : 
             ];
       }
 
-    pub parts_roused : (k : ℕ) (part : HeldPart) → Stands m.parts k part → part.code ≢ None → Stands new k part
-    parts_roused k part stands coded =
+    pub parts_readied : (k : ℕ) (part : MachinePart) → Stands m.parts k part → part.code ≢ None → Stands new k part
+    parts_readied k part stands coded =
         let (now, now_stands) = new_at k part stands in
         elim (stays_or_comes k now now_stands) [
           | inl stays ↦ subst (Stands new k) (same_part m.parts k now part stays.stands stands) now_stands
           | inr comes ↦
               let same = same_part m.parts k comes.was.part part comes.was.stands stands in
-              absurd (coded (ap (λ (one : HeldPart). one.code) (sym same) ∙ comes.was.stale))
+              absurd (coded (ap (λ (one : MachinePart). one.code) (sym same) ∙ comes.was.stale))
         ]

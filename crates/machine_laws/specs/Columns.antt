@@ -3,11 +3,11 @@
 -- After Bryant, Beatty, Brace, Cho and Sheffler, "COSMOS: A Compiled Simulator for MOS Circuits", 1987.
 use Rattle.std.specs.Prelude.{◌≡◌, ℕ, ◌<◌, None, Bool, true, false, List, length, All}
 use Rattle.ternary.specs.declared.tern.Tern.{Tern}
-use Rattle.path_meaning.specs.Graphs.{GraphData, nodes}
-use Rattle.path_meaning.specs.Rails.{IsSound}
-use Rattle.path_meaning.specs.Step.{IsStep}
-use Rattle.oscillation_x.specs.Settling.{IsJoinStep}
-use Rattle.machine_parts.specs.declared.part.HeldPart.{HeldPart}
+use Rattle.switch_paths.specs.Graphs.{GraphData, nodes}
+use Rattle.switch_paths.specs.Rails.{IsSound}
+use Rattle.switch_paths.specs.Step.{IsStep}
+use Rattle.settling.specs.Settling.{IsJoinStep}
+use Rattle.machine_parts.specs.declared.part.MachinePart.{MachinePart}
 use Rattle.machine_laws.specs.Machines.{MachineData, Steps}
 use Rattle.machine_parts.specs.Marking.{IsMarked}
 use Rattle.machine_parts.specs.Stepping.{ReadsChange, StaysMarked}
@@ -15,7 +15,7 @@ use Rattle.machine_parts.specs.Evaluating.{Rooms, IsSeated}
 use Rattle.machine_laws.specs.Fitting.{FitsGraph, LeadsToFitting}
 
 -- the parts whose marks stay are marked, and those that read a node that changed; others may be marked too
-pub record KeepsMarks (joining : Bool) (parts : List HeldPart) (old_marks : List Bool) (old new : List Tern) (marks : List Bool) : Type 0 where
+pub record KeepsMarks (joining : Bool) (parts : List MachinePart) (old_marks : List Bool) (old new : List Tern) (marks : List Bool) : Type 0 where
   pub count : length marks ≡ length old_marks
   pub stays : (k : ℕ) → StaysMarked joining parts old_marks k → IsMarked marks k
   pub reads : (k : ℕ) → ReadsChange parts old new k → IsMarked marks k
@@ -42,5 +42,5 @@ MarkedMachinesFit =
     FitsGraph g (record m { marks = marks; state = state })
 
 -- the parts' nodes are among so many, no two places of a map have one node, and each code fits its part
-abbrev pub AreSeated : ℕ → List HeldPart → Type 0
+abbrev pub AreSeated : ℕ → List MachinePart → Type 0
 AreSeated count parts = (room : Rooms) × All (IsSeated count room) parts

@@ -3,11 +3,11 @@
 use Rattle.std.specs.Prelude.{◌≡◌, ◌≢◌, ℕ, ◌-◌, ◌<◌, ◌↔◌, min, Bool, true, false, List, ◌++◌, length, replicate, None, Some, slice_index_or}
 use Rattle.ternary.specs.declared.tern.Tern.{Tern}
 use Rattle.ternary.specs.declared.tern.Tern.TheVariants.{Unk}
-use Rattle.path_meaning.specs.Graphs.{GraphData, nodes}
+use Rattle.switch_paths.specs.Graphs.{GraphData, nodes}
 use Rattle.group_meaning.specs.Groups.{Group}
 use Rattle.channel_groups.specs.declared.change.Change.{Change}
 use Rattle.channel_groups.specs.Changes.{is_touched_now}
-use Rattle.machine_parts.specs.declared.part.HeldPart.{HeldPart}
+use Rattle.machine_parts.specs.declared.part.MachinePart.{MachinePart}
 use Rattle.machine_parts.specs.Parts.{Stands}
 use Rattle.machine_laws.specs.Machines.{MachineData, groups_in}
 use Rattle.machine_parts.specs.Marking.{IsMarked}
@@ -29,7 +29,7 @@ is_touched_in g change old group = is_touched_now g change (groups_in old.groups
 pub record KeepsWide (count : ℕ) (old new : MachineData) : Type 0 where
   pub known : (later : WideData) → new.wide ≡ Some later → (wide : WideData) × (old.wide ≡ Some wide) × GrowsWide count wide later
   pub stays : (wide : WideData) → old.wide ≡ Some wide →
-      ((k : ℕ) (part : HeldPart) → Stands old.parts k part → (¬ IsOutside wide.graph part) → Stands new.parts k part) → new.wide ≢ None
+      ((k : ℕ) (part : MachinePart) → Stands old.parts k part → (¬ IsOutside wide.graph part) → Stands new.parts k part) → new.wide ≢ None
 
 -- the graph was edited: the machine covers it, new nodes are X and all other nodes stay, each touched group is stale and marked and has no text
 -- yet, and the part of every other group stays, with its text, its code and its mark; the groups that are stepped by vicinities are known still if
@@ -37,17 +37,17 @@ pub record KeepsWide (count : ℕ) (old new : MachineData) : Type 0 where
 pub record Edits (g : GraphData) (change : Change) (old new : MachineData) : Type 0 where
   pub covers : Covers g new
   pub state : new.state ≡ with_new_nodes old.state (nodes g)
-  pub stale : (k : ℕ) (part : HeldPart) (group : Group) → Stands new.parts k part → IsPartOf g group part →
+  pub stale : (k : ℕ) (part : MachinePart) (group : Group) → Stands new.parts k part → IsPartOf g group part →
       is_touched_in g change old group ≡ true → part.code ≡ None
-  pub untold : (k : ℕ) (part : HeldPart) (group : Group) → Stands new.parts k part → IsPartOf g group part →
+  pub untold : (k : ℕ) (part : MachinePart) (group : Group) → Stands new.parts k part → IsPartOf g group part →
       is_touched_in g change old group ≡ true → slice_index_or new.uses k None ≡ None
-  pub marked : (k : ℕ) (part : HeldPart) (group : Group) → Stands new.parts k part → IsPartOf g group part →
+  pub marked : (k : ℕ) (part : MachinePart) (group : Group) → Stands new.parts k part → IsPartOf g group part →
       is_touched_in g change old group ≡ true → IsMarked new.marks k
-  pub stays : (k : ℕ) (part : HeldPart) (group : Group) → Stands new.parts k part → IsPartOf g group part →
+  pub stays : (k : ℕ) (part : MachinePart) (group : Group) → Stands new.parts k part → IsPartOf g group part →
       is_touched_in g change old group ≡ false → Stands old.parts k part
-  pub texts : (k : ℕ) (part : HeldPart) (group : Group) → Stands new.parts k part → IsPartOf g group part →
+  pub texts : (k : ℕ) (part : MachinePart) (group : Group) → Stands new.parts k part → IsPartOf g group part →
       is_touched_in g change old group ≡ false → slice_index_or new.uses k None ≡ slice_index_or old.uses k None
-  pub marks : (k : ℕ) (part : HeldPart) (group : Group) → Stands new.parts k part → IsPartOf g group part →
+  pub marks : (k : ℕ) (part : MachinePart) (group : Group) → Stands new.parts k part → IsPartOf g group part →
       is_touched_in g change old group ≡ false → IsMarked new.marks k ↔ IsMarked old.marks k
   pub last : new.last ≡ old.last
   pub moves : new.moves ≡ old.moves
@@ -57,7 +57,7 @@ pub record Edits (g : GraphData) (change : Change) (old new : MachineData) : Typ
 -- the groups, the parts that had code, the marks, the states and the counts stay
 pub record KeepsCoded (old new : MachineData) : Type 0 where
   pub groups : new.groups ≡ old.groups
-  pub parts : (k : ℕ) (part : HeldPart) → Stands old.parts k part → part.code ≢ None → Stands new.parts k part
+  pub parts : (k : ℕ) (part : MachinePart) → Stands old.parts k part → part.code ≢ None → Stands new.parts k part
   pub marks : new.marks ≡ old.marks
   pub state : new.state ≡ old.state
   pub moves : new.moves ≡ old.moves
@@ -72,7 +72,7 @@ pub record Finishes (g : GraphData) (old new : MachineData) : Type 0 where
   pub open still use *
 
 -- the same, but the texts of the last build are still those from before
-pub record Rouses (g : GraphData) (old new : MachineData) : Type 0 where
+pub record MakesReady (g : GraphData) (old new : MachineData) : Type 0 where
   pub fits : FitsGraph g new
   pub last : new.last ≡ old.last
   pub still : KeepsCoded old new
@@ -83,5 +83,5 @@ pub record Rouses (g : GraphData) (old new : MachineData) : Type 0 where
 abbrev pub StaysKnown : ℕ → MachineData → MachineData → Type 0
 StaysKnown large old new =
     (wide : WideData) → old.wide ≡ Some wide →
-    ((k : ℕ) (part : HeldPart) → Stands new.parts k part → 0 < part.members → part.code ≡ None → ¬ IsOutside wide.graph part) →
+    ((k : ℕ) (part : MachinePart) → Stands new.parts k part → 0 < part.members → part.code ≡ None → ¬ IsOutside wide.graph part) →
     new.wide ≡ Some (record wide { large = min wide.large large })

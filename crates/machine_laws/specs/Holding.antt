@@ -2,11 +2,11 @@
 -- After Bryant, "A Switch-Level Model and Simulator for MOS Digital Systems", 1984.
 use Rattle.std.specs.Prelude.{◌≡◌, ℕ, ◌↔◌, Bool, List, length}
 use Rattle.ternary.specs.declared.tern.Tern.{Tern}
-use Rattle.path_meaning.specs.Graphs.{GraphData}
+use Rattle.switch_paths.specs.Graphs.{GraphData}
 use Rattle.group_meaning.specs.Groups.{Group, AreGroups}
 use Rattle.group_text.specs.FirstTexts.{first_texts}
 use Rattle.circuit_texts.specs.Told.{told}
-use Rattle.machine_parts.specs.declared.part.HeldPart.{HeldPart}
+use Rattle.machine_parts.specs.declared.part.MachinePart.{MachinePart}
 use Rattle.machine_parts.specs.Parts.{HasMember, IsStale}
 use Rattle.vicinity.specs.NodeSets.{IsIn}
 use Rattle.vicinity.specs.Wides.{WideData}
@@ -15,13 +15,13 @@ use Rattle.machine_laws.specs.Machines.{MachineData}
 use Rattle.machine_laws.specs.Fitting.{Covers, AreTold}
 
 -- the node is a member of a stale part
-pub record IsOfStale (parts : List HeldPart) (node : ℕ) : Type 0 where
+pub record IsOfStale (parts : List MachinePart) (node : ℕ) : Type 0 where
   pub k : ℕ
   pub has : HasMember parts k node
   pub stale : IsStale parts k
 
 -- the groups of the stale parts are held, all awake
-pub record HoldsStale (large : ℕ) (g : GraphData) (parts : List HeldPart) (state : List Tern) (wide : WideData) : Type 0 where
+pub record HoldsStale (large : ℕ) (g : GraphData) (parts : List MachinePart) (state : List Tern) (wide : WideData) : Type 0 where
   pub inside : List Bool
   pub members : (node : ℕ) → IsIn inside node ↔ IsOfStale parts node
   pub holds : HoldsMembers large g state inside wide

@@ -2,17 +2,17 @@
 -- After Bryant, Beatty, Brace, Cho and Sheffler, "COSMOS: A Compiled Simulator for MOS Circuits", 1987.
 use Rattle.std.specs.Prelude.{ℕ, ◌≤◌, Bool, true, false, List, [], ◌∷◌, ◌++◌, Option, None}
 use Rattle.ternary.specs.declared.tern.Tern.{Tern}
-use Rattle.path_meaning.specs.declared.TheConstants.{RAILS}
-use Rattle.path_meaning.specs.Graphs.{GraphData, IsWired}
-use Rattle.path_meaning.specs.Step.{IsStep}
-use Rattle.oscillation_x.specs.Settling.{IsJoinStep}
+use Rattle.switch_paths.specs.declared.TheConstants.{RAILS}
+use Rattle.switch_paths.specs.Graphs.{GraphData, IsWired}
+use Rattle.switch_paths.specs.Step.{IsStep}
+use Rattle.settling.specs.Settling.{IsJoinStep}
 use Rattle.group_meaning.specs.Groups.{Group}
 use Rattle.group_rest.specs.Alike.{IsAlike}
 use Rattle.channel_groups.specs.declared.change.Change.{Change}
 use Rattle.channel_groups.specs.Changes.{undo}
 use Rattle.group_text.specs.Texts.{GroupTextData}
 use Rattle.circuit_texts.specs.Building.{Builds}
-use Rattle.machine_parts.specs.declared.part.HeldPart.{HeldPart}
+use Rattle.machine_parts.specs.declared.part.MachinePart.{MachinePart}
 use Rattle.machine_laws.specs.Machines.{MachineData, Advances, Places}
 use Rattle.machine_laws.specs.Fitting.{IsPartOf, Covers, FitsGraph, LeadsToFitting, IsKeptBy}
 use Rattle.machine_laws.specs.Editing.{Edits}
@@ -39,7 +39,7 @@ PlacingKeepsFit =
 -- the part of a group that two graphs share, with the same switches and the same levels of its members, is its part in both
 abbrev pub AlikeGroupsKeepTheirParts : Type 0
 AlikeGroupsKeepTheirParts =
-    (g h : GraphData) (group : Group) (part : HeldPart) → IsWired g → IsWired h → IsAlike g h group → IsPartOf g group part →
+    (g h : GraphData) (group : Group) (part : MachinePart) → IsWired g → IsWired h → IsAlike g h group → IsPartOf g group part →
     IsPartOf h group part
 
 -- the graph with an empty place more at the end

@@ -5,7 +5,7 @@ use Rattle.ternary.specs.declared.tern.Tern.{Tern}
 use Rattle.group_meaning.specs.Groups.{Group}
 use Rattle.channel_groups.specs.Grouping.{GroupsData}
 use Rattle.group_text.specs.Texts.{GroupTextData}
-use Rattle.machine_parts.specs.declared.part.HeldPart.{HeldPart}
+use Rattle.machine_parts.specs.declared.part.MachinePart.{MachinePart}
 use Rattle.machine_parts.specs.Parts.{IsStale}
 use Rattle.machine_parts.specs.Marking.{IsMarked}
 use Rattle.machine_parts.specs.Stepping.{Remarks, Concerns}
@@ -19,7 +19,7 @@ use Rattle.wide_groups.specs.Moving.{graph_in, touched_in, MovesIn, RetouchesIn,
 -- by vicinities, if they are known
 pub record MachineData : Type 0 where
   pub groups : Option GroupsData
-  pub parts : List HeldPart
+  pub parts : List MachinePart
   pub uses : List (Option GroupTextData)
   pub marks : List Bool
   pub state : List Tern

@@ -1,7 +1,7 @@
 -- The words of machines that clauses cite, from one place.
 pub use Rattle.machine_laws.specs.Machines.{Advances, Places, groups_in}
 pub use Rattle.machine_laws.specs.Fitting.{AreUntold, Covers, FitsGraph, IsKeptBy}
-pub use Rattle.machine_laws.specs.Editing.{Edits, Finishes, Rouses, StaysKnown, with_new_nodes}
+pub use Rattle.machine_laws.specs.Editing.{Edits, Finishes, MakesReady, StaysKnown, with_new_nodes}
 pub use Rattle.machine_laws.specs.Columns.{AreSeated}
 pub use Rattle.machine_laws.specs.Finishing.{first_node}
 pub use Rattle.machine_laws.specs.Holding.{IsReady}

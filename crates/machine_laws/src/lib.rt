@@ -13,7 +13,7 @@
 //!
 //! For the proofs of crates above: `FittingLemmas`, `PlacingLemmas` and `KeptLemmas` (what steps, placings and
 //! edits leave), `PartGroups` (the members of a part of a group). They cite `ClearingLemmas`, `CoveringLemmas`,
-//! `FillingLemmas`, `FinishingBuilds`, `FinishingGroups`, `FinishingTexts`, `FinishingWaiting`, `LastingGroups`,
+//! `FillingLemmas`, `FinishingBuilds`, `FinishingGroups`, `FinishingTexts`, `FinishingWaiting`, `LastTextsGroups`,
 //! `RenewingLemmas`, `SeatingLemmas`, `SlotLemmas` and `StayingParts` too, whose heads say what they are of.
 //!
 //! After Bryant, Beatty, Brace, Cho and Sheffler, "COSMOS: A Compiled Simulator for MOS Circuits",

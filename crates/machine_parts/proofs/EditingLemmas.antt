@@ -3,7 +3,7 @@ use Rattle.std.proofs.Common.{◌≡◌, ℕ, zero, suc, ◌+◌, ◌-◌, ◌�
 use Rattle.std.specs.Prelude.{Contains, slice_index_or}
 use Rattle.std.proofs.lemmas.List.{map-append}
 use Rattle.smallvec.specs.SmallVec.{SmallVec}
-use Rattle.machine_parts.specs.declared.part.HeldPart.{HeldPart}
+use Rattle.machine_parts.specs.declared.part.MachinePart.{MachinePart}
 use Rattle.machine_parts.specs.Evaluating.{Rooms}
 use Rattle.machine_parts.specs.Running.{IsMachine}
 use Rattle.machine_parts.specs.Readers.{readers_of}
@@ -53,7 +53,7 @@ none_more (x ∷ xs) count zero = refl
 none_more (x ∷ xs) count (suc n) = none_more xs count n
 
 -- a machine with more nodes can run
-pub IsMachine-grown : (parts : List HeldPart) (marks waiting : List Bool) (count more : ℕ) (lists lists' : List (SmallVec ℕ)) (owners owners' numbers : List (Option ℕ))
+pub IsMachine-grown : (parts : List MachinePart) (marks waiting : List Bool) (count more : ℕ) (lists lists' : List (SmallVec ℕ)) (owners owners' numbers : List (Option ℕ))
     (held most : ℕ) (room : Rooms) → IsMachine parts marks waiting count lists owners numbers held most room → count ≤ more →
     length lists' ≡ more → ((node : ℕ) → readers_of lists' node ≡ readers_of lists node) → length owners' ≡ more →
     ((node : ℕ) → slice_index_or owners' node None ≡ slice_index_or owners node None) →

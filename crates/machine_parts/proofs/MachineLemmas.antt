@@ -2,13 +2,13 @@
 use Rattle.std.proofs.Common.{◌≡◌, ℕ, ◌<◌, ◌≤◌, Bool, List, length, get_or, Option, Some, None, refl, sym, subst, ◌∙◌, arith}
 use Rattle.std.specs.Prelude.{slice_index_or, IfSome, IfNone}
 use Rattle.smallvec.specs.SmallVec.{SmallVec}
-use Rattle.machine_parts.specs.declared.part.HeldPart.{HeldPart}
+use Rattle.machine_parts.specs.declared.part.MachinePart.{MachinePart}
 use Rattle.machine_parts.specs.Evaluating.{Rooms, IsSeated}
 use Rattle.machine_parts.specs.Running.{AreOwners, IsMachine}
 use Rattle.machine_parts.specs.Readers.{HaveSameReaders}
 
--- a wider desk has room for a part too
-pub IsSeated-wider : (count : ℕ) (room wide : Rooms) (part : HeldPart) → room.values ≤ wide.values → IsSeated count room part →
+-- a wider workspace has room for a part too
+pub IsSeated-wider : (count : ℕ) (room wide : Rooms) (part : MachinePart) → room.values ≤ wide.values → IsSeated count room part →
     IsSeated count wide part
 IsSeated-wider count room wide part values seated = record {
   below = seated.below;
@@ -23,7 +23,7 @@ pub HaveSameReaders-refl : (lists : List (SmallVec ℕ)) → HaveSameReaders lis
 HaveSameReaders-refl lists = record { count = refl; stays = λ node l there. there; only = λ node l there. there }
 
 -- a machine with other marks, with more room and more places for texts, and whose nodes have the same readers, can run
-pub IsMachine-with : (parts : List HeldPart) (marks new_marks waiting : List Bool) (count : ℕ) (lists new_lists : List (SmallVec ℕ))
+pub IsMachine-with : (parts : List MachinePart) (marks new_marks waiting : List Bool) (count : ℕ) (lists new_lists : List (SmallVec ℕ))
     (owners numbers new_numbers : List (Option ℕ)) (held most : ℕ) (room wide : Rooms) → length new_marks ≡ length marks →
     HaveSameReaders lists new_lists → length numbers ≤ length new_numbers → room.values ≤ wide.values → room.changes ≤ wide.changes →
     room.parts ≤ wide.parts → IsMachine parts marks waiting count lists owners numbers held most room →
@@ -49,7 +49,7 @@ IsMachine-with parts marks new_marks waiting count lists new_lists owners number
 }
 
 -- with other marks alone
-IsMachine-remarked : (parts : List HeldPart) (marks new_marks : List Bool) (waiting : List Bool) (count : ℕ) (lists : List (SmallVec ℕ))
+IsMachine-remarked : (parts : List MachinePart) (marks new_marks : List Bool) (waiting : List Bool) (count : ℕ) (lists : List (SmallVec ℕ))
     (owners numbers : List (Option ℕ)) (held most : ℕ) (room : Rooms) → length new_marks ≡ length marks →
     IsMachine parts marks waiting count lists owners numbers held most room → IsMachine parts new_marks waiting count lists owners numbers held most room
 IsMachine-remarked parts marks new_marks waiting count lists owners numbers held most room counted machine =
@@ -57,7 +57,7 @@ IsMachine-remarked parts marks new_marks waiting count lists owners numbers held
     (omega arith) (omega arith) (omega arith) (omega arith) machine
 
 -- and with the same room
-pub IsMachine-again : (parts : List HeldPart) (marks new_marks : List Bool) (waiting new_waiting : List Bool) (count new_count : ℕ)
+pub IsMachine-again : (parts : List MachinePart) (marks new_marks : List Bool) (waiting new_waiting : List Bool) (count new_count : ℕ)
     (lists : List (SmallVec ℕ)) (owners numbers : List (Option ℕ)) (held most : ℕ) (room new_room : Rooms) → length new_marks ≡ length marks →
     new_waiting ≡ waiting → new_count ≡ count → new_room ≡ room → IsMachine parts marks waiting count lists owners numbers held most room →
     IsMachine parts new_marks new_waiting new_count lists owners numbers held most new_room
@@ -68,7 +68,7 @@ IsMachine-again parts marks new_marks waiting new_waiting count new_count lists 
     (IsMachine-remarked parts marks new_marks waiting count lists owners numbers held most room counted machine)))
 
 -- the part that owns a node has a mark
-pub owner_inside : (parts : List HeldPart) (marks : List Bool) (count : ℕ) (owners : List (Option ℕ)) → AreOwners parts count owners →
+pub owner_inside : (parts : List MachinePart) (marks : List Bool) (count : ℕ) (owners : List (Option ℕ)) → AreOwners parts count owners →
     length marks ≡ length parts → (node : ℕ) (owner : Option ℕ) → owner ≡ slice_index_or owners node None → IfSome owner (λ k. k < length marks)
 owner_inside parts marks count owners own counted node None is = tt
 owner_inside parts marks count owners own counted node (Some k) is =

@@ -16,7 +16,7 @@ use Rattle.smallvec.specs.SmallVec.{SmallVec}
 use Rattle.straight_code.specs.Code.{CodeData}
 use Rattle.straight_code.specs.declared.part.Part.{Part}
 use Rattle.straight_code.specs.Parts as straight
-use Rattle.machine_parts.specs.declared.part.HeldPart.{HeldPart}
+use Rattle.machine_parts.specs.declared.part.MachinePart.{MachinePart}
 use Rattle.machine_parts.specs.Parts.{Stands, IsMemberAt, HasMember, ReadsAt, IsStale, AreApart, has_members}
 use Rattle.machine_parts.specs.Marking.{IsMarked, count_marked, IsAgenda}
 use Rattle.machine_parts.specs.Evaluating.{Rooms, IsSeated}
@@ -69,14 +69,14 @@ IsAgenda-all n capacity room =
     }
 
 -- one part more is held
-pub held_more : (all made : List HeldPart) (xs later : List Part) (ys rest : List (Vec ℕ Global)) (x : Part) (y : Vec ℕ Global) →
+pub held_more : (all made : List MachinePart) (xs later : List Part) (ys rest : List (Vec ℕ Global)) (x : Part) (y : Vec ℕ Global) →
     xs ≡ x ∷ later → ys ≡ y ∷ rest → all ≡ made ++ map held (zip xs ys) → all ≡ (made ++ held (x, y) ∷ []) ++ map held (zip later rest)
 held_more all made xs later ys rest x y xs_are ys_are so_far =
     so_far ∙ (ap₂ (λ parts lists. made ++ map held (zip parts lists)) xs_are ys_are
     ∙ sym (append_assoc made (held (x, y) ∷ []) (map held (zip later rest))))
 
 -- if none is left, all are held
-pub held_all : (all made : List HeldPart) (xs : List Part) (ys : List (Vec ℕ Global)) → all ≡ made ++ map held (zip xs ys) → length xs ≡ 0 → made ≡ all
+pub held_all : (all made : List MachinePart) (xs : List Part) (ys : List (Vec ℕ Global)) → all ≡ made ++ map held (zip xs ys) → length xs ≡ 0 → made ≡ all
 held_all all made [] ys so_far none = sym (so_far ∙ append-nil made)
 held_all all made (x ∷ xs) ys so_far none = absurd (omega (arith, none))
 
@@ -136,7 +136,7 @@ contains_or_not (first ∷ xs) x =
     later first xs x differs none (zero, inside, here) = differs here
     later first xs x differs none (suc k, inside, here) = none (k, omega (arith, inside), here)
 
-module _ (parts : List HeldPart) (i : ℕ) (part : HeldPart) (stands : Stands parts i part) (few : part.members ≤ length part.map.items) where
+module _ (parts : List MachinePart) (i : ℕ) (part : MachinePart) (stands : Stands parts i part) (few : part.members ≤ length part.map.items) where
   -- what stands at the front of the part's map is a member of the part
   pub member_at_front : (node : ℕ) → Contains (take part.members part.map.items) node → HasMember parts i node
   member_at_front node (place, inside, here) =
@@ -222,20 +222,20 @@ formed_parts count (part ∷ parts) (nodes ∷ reads) fit =
 -- what the parts read is there
 pub reads_inside : (count : ℕ) (parts : List Part) (reads : List (Vec ℕ Global)) → All (λ nodes. All (λ node. node < count) nodes.items) reads →
     All (λ part. All (λ node. node < count) part.reads.items) (map held (zip parts reads))
-reads_inside count [] reads below = All-nil (λ (part : HeldPart). All (λ node. node < count) part.reads.items)
-reads_inside count (part ∷ parts) [] below = All-nil (λ (part : HeldPart). All (λ node. node < count) part.reads.items)
+reads_inside count [] reads below = All-nil (λ (part : MachinePart). All (λ node. node < count) part.reads.items)
+reads_inside count (part ∷ parts) [] below = All-nil (λ (part : MachinePart). All (λ node. node < count) part.reads.items)
 reads_inside count (part ∷ parts) (nodes ∷ reads) below =
     let P : Vec ℕ Global → Type 0 = λ list. All (λ node. node < count) list.items in
-    All-cons (λ (part : HeldPart). All (λ node. node < count) part.reads.items) (held (part, nodes)) (map held (zip parts reads))
+    All-cons (λ (part : MachinePart). All (λ node. node < count) part.reads.items) (held (part, nodes)) (map held (zip parts reads))
     (All-head P nodes reads below) (reads_inside count parts reads (All-tail P nodes reads below))
 
 -- the part that is held under a number is the part with this number
-held_at : (parts : List Part) (reads : List (Vec ℕ Global)) (k : ℕ) (one : HeldPart) → Stands (map held (zip parts reads)) k one →
+held_at : (parts : List Part) (reads : List (Vec ℕ Global)) (k : ℕ) (one : MachinePart) → Stands (map held (zip parts reads)) k one →
     (part : Part) × (slice_get parts k ≡ Some part) × (part.members ≡ one.members) × (part.map ≡ one.map)
 held_at [] reads k one stands = absurd (omega (arith, stands.inside))
 held_at (part ∷ parts) [] k one stands = absurd (omega (arith, stands.inside))
 held_at (part ∷ parts) (nodes ∷ reads) zero one stands =
-    (part, refl, ap (λ (p : HeldPart). p.members) stands.here, ap (λ (p : HeldPart). p.map) stands.here)
+    (part, refl, ap (λ (p : MachinePart). p.members) stands.here, ap (λ (p : MachinePart). p.map) stands.here)
 held_at (part ∷ parts) (nodes ∷ reads) (suc k) one stands =
     held_at parts reads k one (record { inside = omega (arith, stands.inside); here = stands.here })
 
@@ -260,7 +260,7 @@ apart_parts parts reads share k l node one two =
         }
 
 -- if there is room for a part's code the part can be run
-pub IsSeated-formed : (count : ℕ) (room : Rooms) (part : HeldPart) → IsFormed count part → IsCodeRoom room.values part → IsSeated count room part
+pub IsSeated-formed : (count : ℕ) (room : Rooms) (part : MachinePart) → IsFormed count part → IsCodeRoom room.values part → IsSeated count room part
 IsSeated-formed count room part form values = record {
   below = form.below;
   members = form.members;
@@ -269,7 +269,7 @@ IsSeated-formed count room part form values = record {
 }
 
 -- a machine that starts with parts that have code can run
-pub IsMachine-started : (parts : List HeldPart) (count : ℕ) (lists : List (SmallVec ℕ)) (owners numbers : List (Option ℕ)) (number most : ℕ) (room : Rooms) →
+pub IsMachine-started : (parts : List MachinePart) (count : ℕ) (lists : List (SmallVec ℕ)) (owners numbers : List (Option ℕ)) (number most : ℕ) (room : Rooms) →
     All (IsFormed count) parts → AreApart parts → length lists ≡ count →
     ((node k : ℕ) → ReadsAt parts k node → Contains (readers_of lists node) k) →
     ((node k : ℕ) → Contains (readers_of lists node) k → ReadsAt parts k node) → AreOwners parts count owners →

@@ -6,7 +6,7 @@ use Rattle.std.proofs.lemmas.Bool.{cases_lt, false_from_ne_true}
 use Rattle.std.proofs.lemmas.List.{get_or_default, length-set, length_push, take_more, get_or_push, get_or_append_left}
 use Rattle.std.proofs.lemmas.List.Sums.{sum_by-set, sum_by-cons, sum_by_push, count_by-le-length}
 use Rattle.std.proofs.lemmas.List.Elements.{All-push, Contains-push, Contains-push_cases, Contains-append_left}
-use Rattle.machine_parts.specs.declared.part.HeldPart.{HeldPart}
+use Rattle.machine_parts.specs.declared.part.MachinePart.{MachinePart}
 use Rattle.machine_parts.specs.Marking.{IsMarked, count_marked, marked_sum, AreOnce, ListsMarked, IsAgenda, MarksAll, IsReached}
 use Rattle.machine_parts.proofs.SetMarks.{marked_inside, marked-set, marked-cleared, marked-kept, marked-stays, marked-set_cases, marked-cleared_was, marked-cleared_cases}
 
@@ -31,7 +31,7 @@ count_marked-cleared marks k marked =
     omega (arith, sum_by-set one marks k false false (marked_inside marks k marked), worth)
 
 -- a sum over the marked parts falls by a part whose mark is cleared
-pub marked_sum-cleared : (f : HeldPart → ℕ) (parts : List HeldPart) (marks : List Bool) (k : ℕ) (part : HeldPart) → k < length parts →
+pub marked_sum-cleared : (f : MachinePart → ℕ) (parts : List MachinePart) (marks : List Bool) (k : ℕ) (part : MachinePart) → k < length parts →
     slice_index_or parts k part ≡ part → IsMarked marks k → marked_sum f parts (slice_set marks k false) + f part ≡ marked_sum f parts marks
 marked_sum-cleared f [] marks k part inside here marked = absurd (omega (arith, inside))
 marked_sum-cleared f (first ∷ parts) [] k part inside here marked = absurd (cc)
@@ -46,7 +46,7 @@ marked_sum-cleared f (first ∷ parts) (false ∷ marks) (suc k) part inside her
     marked_sum-cleared f parts marks k part (omega (arith, inside)) here marked
 
 -- and is at most the sum over all parts
-pub marked_sum-within : (f : HeldPart → ℕ) (parts : List HeldPart) (marks : List Bool) → marked_sum f parts marks ≤ sum_by f parts
+pub marked_sum-within : (f : MachinePart → ℕ) (parts : List MachinePart) (marks : List Bool) → marked_sum f parts marks ≤ sum_by f parts
 marked_sum-within f [] marks = omega arith
 marked_sum-within f (part ∷ parts) [] = omega arith
 marked_sum-within f (part ∷ parts) (true ∷ marks) = omega (arith, sum_by-cons f part parts, marked_sum-within f parts marks)

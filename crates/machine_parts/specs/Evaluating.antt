@@ -3,9 +3,9 @@ use Rattle.std.specs.Prelude.{◌≡◌, ◌≢◌, ℕ, ◌+◌, ◌*◌, ◌<�
 use Rattle.std.specs.declared.rc.Rc.{Rc}
 use Rattle.std.proofs.Common.{Global}
 use Rattle.ternary.specs.declared.tern.Tern.{Tern}
-use Rattle.path_meaning.specs.Switching.{state_at}
+use Rattle.switch_paths.specs.Switching.{state_at}
 use Rattle.straight_code.specs.Code.{CodeData}
-use Rattle.machine_parts.specs.declared.part.HeldPart.{HeldPart}
+use Rattle.machine_parts.specs.declared.part.MachinePart.{MachinePart}
 use Rattle.part_words.specs.declared.change.Change.{Change}
 use Rattle.part_words.specs.Noting.{after}
 use Rattle.machine_parts.specs.Marking.{IsMarked}
@@ -18,13 +18,13 @@ pub record Rooms : Type 0 where
   pub parts : ℕ
 
 -- the code has an input for each node of the part's map and an output for each member, and there is room for it
-pub record IsSeatedCode (room : Rooms) (part : HeldPart) (code : CodeData) : Type 0 where
+pub record IsSeatedCode (room : Rooms) (part : MachinePart) (code : CodeData) : Type 0 where
   pub inputs : length part.map.items ≡ code.inputs
   pub outputs : length code.outputs ≡ part.members
   pub value_room : 2 + 2 * code.inputs + length code.instructions ≤ room.values
 
 -- the part's nodes are there, no two places of its map have one node, and its code fits it
-pub record IsSeated (count : ℕ) (room : Rooms) (part : HeldPart) : Type 0 where
+pub record IsSeated (count : ℕ) (room : Rooms) (part : MachinePart) : Type 0 where
   pub below : All (λ node. node < count) part.map.items
   pub members : part.members ≤ length part.map.items
   pub apart : (i j : ℕ) → i < length part.map.items → j < length part.map.items →
@@ -32,14 +32,14 @@ pub record IsSeated (count : ℕ) (room : Rooms) (part : HeldPart) : Type 0 wher
   pub coded : (code : Rc CodeData Global) → part.code ≡ Some code → IsSeatedCode room part code.value
 
 -- what the code of the part with this number gives makes the node change so
-pub record IsChange (joining : Bool) (parts : List HeldPart) (state : List Tern) (k : ℕ) (change : Change) : Type 0 where
+pub record IsChange (joining : Bool) (parts : List MachinePart) (state : List Tern) (k : ℕ) (change : Change) : Type 0 where
   pub given : Tern
   pub gives : Gives parts state k change.node given
   pub value : change.value ≡ after joining (state_at state change.node) given
   pub differs : change.value ≢ state_at state change.node
 
 -- some of the marked parts were evaluated, none of which waits: they aren't marked any more, and the changes that they make are noted
-pub record Evaluated (joining : Bool) (parts : List HeldPart) (state : List Tern) (waiting : List Bool) (before marks : List Bool)
+pub record Evaluated (joining : Bool) (parts : List MachinePart) (state : List Tern) (waiting : List Bool) (before marks : List Bool)
     (changes : List Change) (done : List ℕ) : Type 0 where
   pub fewer : (k : ℕ) → IsMarked marks k → IsMarked before k
   pub marked : (k : ℕ) → Contains done k → IsMarked before k

@@ -1,6 +1,6 @@
 -- Marks of parts, and the lists in which the marked parts stand.
 use Rattle.std.specs.Prelude.{◌≡◌, ◌≢◌, ℕ, ◌+◌, ◌<◌, ◌≤◌, ◌⊎◌, Bool, List, length, All, Contains, slice_index, true, false, [], ◌∷◌, count_by, option_map, unwrap_or, slice_index_or}
-use Rattle.machine_parts.specs.declared.part.HeldPart.{HeldPart}
+use Rattle.machine_parts.specs.declared.part.MachinePart.{MachinePart}
 
 -- the part with this number is marked
 abbrev pub IsMarked : List Bool → ℕ → Type 0
@@ -11,18 +11,18 @@ abbrev pub count_marked : List Bool → ℕ
 count_marked marks = count_by (λ mark. mark) marks
 
 -- the sum over the marked parts
-abbrev pub marked_sum : (HeldPart → ℕ) → List HeldPart → List Bool → ℕ
+abbrev pub marked_sum : (MachinePart → ℕ) → List MachinePart → List Bool → ℕ
 marked_sum f [] marks = 0
 marked_sum f (part ∷ parts) [] = 0
 marked_sum f (part ∷ parts) (true ∷ marks) = f part + marked_sum f parts marks
 marked_sum f (part ∷ parts) (false ∷ marks) = marked_sum f parts marks
 
 -- how many instructions the part's code has; a stale part has none
-abbrev pub instructions_of : HeldPart → ℕ
+abbrev pub instructions_of : MachinePart → ℕ
 instructions_of part = unwrap_or (option_map (λ code. length code.value.instructions) part.code) 0
 
 -- how many members the part has
-abbrev pub members_of : HeldPart → ℕ
+abbrev pub members_of : MachinePart → ℕ
 members_of part = part.members
 
 -- a mark for each part, and whether it is stale and so waits for a code

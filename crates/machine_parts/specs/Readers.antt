@@ -2,7 +2,7 @@
 use Rattle.std.specs.Prelude.{◌≡◌, ◌≢◌, ℕ, ◌-◌, ◌<◌, ◌⊎◌, List, [], length, map, Contains, Some, nat_eq, slice_get, slice_index, slice_index_or}
 use Rattle.std.specs.List.{IsDistinct}
 use Rattle.smallvec.specs.SmallVec.{SmallVec}
-use Rattle.machine_parts.specs.declared.part.HeldPart.{HeldPart}
+use Rattle.machine_parts.specs.declared.part.MachinePart.{MachinePart}
 use Rattle.machine_parts.specs.Parts.{ReadsAt}
 
 -- the parts that are listed as readers of a node
@@ -54,15 +54,15 @@ pub record Unlists (k : ℕ) (nodes : List ℕ) (old new : List (SmallVec ℕ)) 
   pub each : AreEachOnce new
 
 -- a part with this number reads the node
-pub record ReadsAs (slots : List ℕ) (fresh : List HeldPart) (k node : ℕ) : Type 0 where
+pub record ReadsAs (slots : List ℕ) (fresh : List MachinePart) (k node : ℕ) : Type 0 where
   pub i : ℕ
-  pub part : HeldPart
+  pub part : MachinePart
   pub slot : slice_get slots i ≡ Some k
   pub there : slice_get fresh i ≡ Some part
   pub reads : Contains part.reads.items node
 
 -- the parts with these numbers are listed as readers of what they read too
-pub record ListsAll (slots : List ℕ) (fresh : List HeldPart) (old new : List (SmallVec ℕ)) : Type 0 where
+pub record ListsAll (slots : List ℕ) (fresh : List MachinePart) (old new : List (SmallVec ℕ)) : Type 0 where
   pub count : length new ≡ length old
   pub stays : (node l : ℕ) → Contains (readers_of old node) l → Contains (readers_of new node) l
   pub listed : (node k : ℕ) → ReadsAs slots fresh k node → Contains (readers_of new node) k
@@ -75,7 +75,7 @@ pub record HaveSameReaders (old new : List (SmallVec ℕ)) : Type 0 where
   pub only : (node l : ℕ) → Contains (readers_of new node) l → Contains (readers_of old node) l
 
 -- the parts with these numbers are listed as readers of what they read, as far as this place
-pub record AreListedTo (slots : List ℕ) (fresh : List HeldPart) (end : ℕ) (old new : List (SmallVec ℕ)) : Type 0 where
+pub record AreListedTo (slots : List ℕ) (fresh : List MachinePart) (end : ℕ) (old new : List (SmallVec ℕ)) : Type 0 where
   pub count : length new ≡ length old
   pub stays : (node l : ℕ) → Contains (readers_of old node) l → Contains (readers_of new node) l
   pub listed : (node k : ℕ) (how : ReadsAs slots fresh k node) → how.i < end → Contains (readers_of new node) k
@@ -84,7 +84,7 @@ pub record AreListedTo (slots : List ℕ) (fresh : List HeldPart) (end : ℕ) (o
   pub each : AreEachOnce new
 
 -- they are taken off the lists, as far as this place
-pub record AreOffTo (slots : List ℕ) (fresh : List HeldPart) (end : ℕ) (old new : List (SmallVec ℕ)) : Type 0 where
+pub record AreOffTo (slots : List ℕ) (fresh : List MachinePart) (end : ℕ) (old new : List (SmallVec ℕ)) : Type 0 where
   pub count : length new ≡ length old
   pub gone : (node k : ℕ) (how : ReadsAs slots fresh k node) → how.i < end → ¬ Contains (readers_of new node) k
   pub stays : (node l : ℕ) → Contains (readers_of old node) l → (¬ Contains slots l) → Contains (readers_of new node) l
@@ -92,7 +92,7 @@ pub record AreOffTo (slots : List ℕ) (fresh : List HeldPart) (end : ℕ) (old 
   pub each : AreEachOnce new
 
 -- the parts with a lower number are listed as readers of the nodes that they read, and no others
-pub record AreListed (parts : List HeldPart) (count i : ℕ) (lists : List (SmallVec ℕ)) : Type 0 where
+pub record AreListed (parts : List MachinePart) (count i : ℕ) (lists : List (SmallVec ℕ)) : Type 0 where
   pub counted : length lists ≡ count
   pub readers : (node k : ℕ) → k < i → ReadsAt parts k node → Contains (readers_of lists node) k
   pub reads : (node k : ℕ) → Contains (readers_of lists node) k → ReadsAt parts k node

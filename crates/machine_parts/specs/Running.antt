@@ -3,8 +3,8 @@ use Rattle.std.specs.Prelude.{◌≡◌, ◌≢◌, ℕ, ◌≤◌, Bool, List, 
 use Rattle.std.specs.List.{sum_by}
 use Rattle.smallvec.specs.SmallVec.{SmallVec}
 use Rattle.ternary.specs.declared.tern.Tern.{Tern}
-use Rattle.path_meaning.specs.Switching.{state_at}
-use Rattle.machine_parts.specs.declared.part.HeldPart.{HeldPart}
+use Rattle.switch_paths.specs.Switching.{state_at}
+use Rattle.machine_parts.specs.declared.part.MachinePart.{MachinePart}
 use Rattle.part_words.specs.declared.change.Change.{Change}
 use Rattle.machine_parts.specs.Parts.{HasMember, ReadsAt, IsStale, AreApart, has_members}
 use Rattle.machine_parts.specs.Readers.{readers_of}
@@ -12,7 +12,7 @@ use Rattle.machine_parts.specs.Marking.{IsMarked, members_of, IsReached}
 use Rattle.machine_parts.specs.Evaluating.{Rooms, IsSeated}
 
 -- the parts are seated, share no members, and have marks; the stale ones wait; each node has its readers; and there is room for a step
-pub record IsRunnable (parts : List HeldPart) (marks : List Bool) (waiting : List Bool) (count : ℕ) (lists : List (SmallVec ℕ)) (room : Rooms) : Type 0 where
+pub record IsRunnable (parts : List MachinePart) (marks : List Bool) (waiting : List Bool) (count : ℕ) (lists : List (SmallVec ℕ)) (room : Rooms) : Type 0 where
   pub counted : length marks ≡ length parts
   pub seated : All (IsSeated count room) parts
   pub apart : AreApart parts
@@ -25,7 +25,7 @@ pub record IsRunnable (parts : List HeldPart) (marks : List Bool) (waiting : Lis
   pub parts_room : length parts ≤ room.parts
 
 -- each node has the part that it is a member of, if there is one
-pub record AreOwners (parts : List HeldPart) (count : ℕ) (owners : List (Option ℕ)) : Type 0 where
+pub record AreOwners (parts : List MachinePart) (count : ℕ) (owners : List (Option ℕ)) : Type 0 where
   pub counted : length owners ≡ count
   pub owner : (node k : ℕ) → HasMember parts k node → slice_index_or owners node None ≡ Some k
   pub member : (node k : ℕ) → slice_index_or owners node None ≡ Some k → HasMember parts k node
@@ -46,7 +46,7 @@ ReadsAny readers = IsReached (λ (change : Change). readers_of readers change.no
 
 -- the machine can run, knows the owners of its nodes, has a text or none for each part, and counts the parts with members; and there is
 -- room for so many changes as it has members
-pub record IsMachine (parts : List HeldPart) (marks : List Bool) (waiting : List Bool) (count : ℕ) (lists : List (SmallVec ℕ)) (owners : List (Option ℕ))
+pub record IsMachine (parts : List MachinePart) (marks : List Bool) (waiting : List Bool) (count : ℕ) (lists : List (SmallVec ℕ)) (owners : List (Option ℕ))
     (numbers : List (Option ℕ)) (held most : ℕ) (room : Rooms) : Type 0 where
   pub runs : IsRunnable parts marks waiting count lists room
   pub own : AreOwners parts count owners

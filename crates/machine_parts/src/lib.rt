@@ -1,7 +1,7 @@
 //! The parts of a compiled machine: which nodes they have and read, which of them are marked, and what a step of
 //! them is. There is no code: the layers above use the definitions and the lemmas.
 //!
-//! The main type is `HeldPart`: the code of a group with the nodes that it stands for. A part's members are the
+//! The main type is `MachinePart`: the code of a group with the nodes that it stands for. A part's members are the
 //! nodes whose next states its code gives; a step evaluates the marked parts, all under the same old state. Nothing
 //! here speaks of a graph or of its groups.
 //!
@@ -20,4 +20,4 @@
 
 mod part;
 
-pub use part::HeldPart;
+pub use part::MachinePart;

@@ -9,7 +9,7 @@ use straight_code::Code;
 /// are its members: output j of the code is the next state of the node at place j. A part without a code
 /// is stale: it waits for one.
 #[derive(Drop)]
-pub struct HeldPart {
+pub struct MachinePart {
     pub code: Option<Rc<Code>>,
     pub map: Vec<usize>,
     pub members: usize,

@@ -7,8 +7,8 @@ use Rattle.std.proofs.lemmas.List.Elements.{All-head, All-tail}
 use Rattle.ternary.specs.declared.tern.Tern.{Tern}
 use Rattle.ternary.specs.Counts.{raised}
 use Rattle.strength_order.specs.declared.TheConstants.{INPUT_LEVEL}
-use Rattle.path_meaning.specs.Graphs.{GraphData, level_of}
-use Rattle.path_meaning.specs.Switching.{state_at}
+use Rattle.switch_paths.specs.Graphs.{GraphData, level_of}
+use Rattle.switch_paths.specs.Switching.{state_at}
 use Rattle.group_meaning.proofs.MappedLists.{contains-map}
 use Rattle.machine_parts.specs.Parts.{IsStale}
 use Rattle.machine_parts.specs.Stepping.{ReadsChange}

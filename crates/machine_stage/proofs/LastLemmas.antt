@@ -1,7 +1,7 @@
 -- The texts of a machine's last build, which stand in front of what is kept: after a build, where one was refused, and where the machine is
 -- let go.
 use Rattle.std.proofs.Common.{◌≡◌, ℕ, Bool, true, false, ◌||◌, List, [], ◌++◌, Option, sym, ap, subst, ◌∙◌}
-use Rattle.path_meaning.specs.Graphs.{GraphData}
+use Rattle.switch_paths.specs.Graphs.{GraphData}
 use Rattle.group_text.specs.Texts.{GroupTextData, text_of_group}
 use Rattle.group_text.specs.FirstTexts.{is_among}
 use Rattle.group_analysis.specs.Using.{used_texts}

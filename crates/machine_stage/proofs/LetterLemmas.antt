@@ -2,9 +2,9 @@
 use Rattle.std.proofs.Common.{◌≡◌, ℕ, ◌<◌, Bool, true, false, List, [], ◌∷◌, length, refl, sym, ap, ◌∙◌, arith}
 use Rattle.std.specs.Prelude.{◌==◌, slice_set, if◌then◌else◌}
 use Rattle.ternary.specs.declared.tern.Tern.{Tern}
-use Rattle.path_meaning.specs.Graphs.{GraphData}
-use Rattle.path_meaning.specs.Switching.{state_at}
-use Rattle.oscillation_x.specs.declared.settling.Settled.{Settled}
+use Rattle.switch_paths.specs.Graphs.{GraphData}
+use Rattle.switch_paths.specs.Switching.{state_at}
+use Rattle.settling.specs.declared.settling.Settled.{Settled}
 use Rattle.column_stage.specs.Columns.{letter_in}
 use Rattle.machine_stage.specs.Machines.{StageData}
 use Rattle.machine_stage.specs.Stages.{MovesBy, RestsWith, TakesPhase}
@@ -18,10 +18,11 @@ pub first_letter : (letters : List Tern) → state_at letters 0 ≡ letter_in 0 
 first_letter letters = either (length letters == 1) (state_at letters 0)
 
 -- and there is no other column
-pub letter_of_lane : (lane : ℕ) (letters : List Tern) → lane < 1 → (node : ℕ) (old new : List Tern) → new ≡ slice_set old node (state_at letters 0) →
-    new ≡ slice_set old node (letter_in lane letters)
-letter_of_lane lane letters inside node old new set =
-    let first : lane ≡ 0 = omega (arith, inside) in
+pub letter_of_column : (column : ℕ) (letters : List Tern) → column < 1 → (node : ℕ) (old new : List Tern) →
+    new ≡ slice_set old node (state_at letters 0) →
+    new ≡ slice_set old node (letter_in column letters)
+letter_of_column column letters inside node old new set =
+    let first : column ≡ 0 = omega (arith, inside) in
     set ∙ ap (slice_set old node) (first_letter letters) ∙ ap (λ (n : ℕ). slice_set old node (letter_in n letters)) (sym first)
 
 -- a count that was written over the one that stood there

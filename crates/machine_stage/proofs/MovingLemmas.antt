@@ -5,8 +5,8 @@ use Rattle.ternary.specs.declared.tern.Tern.{Tern}
 use Rattle.ternary.specs.Counts.{raised}
 use Rattle.ternary.proofs.CountsLemmas.{raised-more, raised-none}
 use Rattle.machine_laws.specs.Machines.{MachineData, IsAtRest}
-use Rattle.oscillation_x.specs.declared.settling.Settled.{Settled}
-use Rattle.path_meaning.specs.Graphs.{GraphData}
+use Rattle.settling.specs.declared.settling.Settled.{Settled}
+use Rattle.switch_paths.specs.Graphs.{GraphData}
 use Rattle.told_lines.specs.Lines.{Line, Wave}
 use Rattle.told_lines.specs.Sums.{steps_of}
 use Rattle.machine_stage.specs.Machines.{StageData, EndsAtRest, MovesMachine, moves_of, placed_of, steps_in}

@@ -1,8 +1,8 @@
 -- Nodes whose states differ are placed in a machine, one after the other.
 use Rattle.std.proofs.Common.{◌≢◌, ℕ, List, Option, Some, None, refl, subst}
 use Rattle.ternary.specs.declared.tern.Tern.{Tern}
-use Rattle.path_meaning.specs.Graphs.{GraphData}
-use Rattle.path_meaning.specs.Switching.{state_at}
+use Rattle.switch_paths.specs.Graphs.{GraphData}
+use Rattle.switch_paths.specs.Switching.{state_at}
 use Rattle.machine_laws.specs.Machines.{MachineData}
 use Rattle.machine_stage.specs.Machines.{ConcernsOther, PlacesOthersIn}
 use Rattle.machine_stage.specs.Stages.{PutsNode, PutsIn, PutsOthers, PutsOthersIn}

@@ -5,9 +5,9 @@ use Rattle.std.specs.Prelude.{Contains, ◌⊎◌}
 use Rattle.std.proofs.lemmas.List.Elements.{All-contains}
 use Rattle.ternary.specs.declared.tern.Tern.{Tern}
 use Rattle.strength_order.specs.declared.TheConstants.{INPUT_LEVEL}
-use Rattle.path_meaning.specs.Graphs.{GraphData, level_of}
+use Rattle.switch_paths.specs.Graphs.{GraphData, level_of}
 use Rattle.group_text.specs.Texts.{GroupTextData}
-use Rattle.machine_parts.specs.declared.part.HeldPart.{HeldPart}
+use Rattle.machine_parts.specs.declared.part.MachinePart.{MachinePart}
 use Rattle.machine_parts.specs.Parts.{HasMember}
 use Rattle.machine_laws.specs.Machines.{MachineData}
 use Rattle.machine_parts.specs.Marking.{IsMarked}
@@ -34,7 +34,7 @@ no_member g machine covers node input k has =
 -- ---- nodes and clocks that are placed
 
 -- no node was placed yet
-pub places-none : (g : GraphData) (Concerned : List HeldPart → ℕ → Type 0) (machine : MachineData) → PlacesSome g Concerned machine machine
+pub places-none : (g : GraphData) (Concerned : List MachinePart → ℕ → Type 0) (machine : MachineData) → PlacesSome g Concerned machine machine
 places-none g Concerned machine = record {
   covers = λ covers. covers;
   known = λ kept known. known;
@@ -45,8 +45,9 @@ places-none g Concerned machine = record {
 }
 
 -- one node more was placed
-pub places-more : (g : GraphData) (Concerned : List HeldPart → ℕ → Type 0) (node : ℕ) (value : Tern) (old mid new : MachineData) →
-    ((parts : List HeldPart) (k : ℕ) → Concerns parts k node → Concerned parts k) → PlacesSome g Concerned old mid → PutsNode g node value mid new →
+pub places-more : (g : GraphData) (Concerned : List MachinePart → ℕ → Type 0) (node : ℕ) (value : Tern) (old mid new : MachineData) →
+    ((parts : List MachinePart) (k : ℕ) → Concerns parts k node → Concerned parts k) → PlacesSome g Concerned old mid →
+    PutsNode g node value mid new →
     PlacesSome g Concerned old new
 places-more g Concerned node value old mid new concerned so_far puts = record {
   covers = λ covers. puts.covers (so_far.covers covers);
@@ -59,7 +60,7 @@ places-more g Concerned node value old mid new concerned so_far puts = record {
   where
     marked_by : (k : ℕ) → IsMarked mid.marks k ⊎ Concerns mid.parts k node → IsMarked old.marks k ⊎ Concerned old.parts k
     marked_by k (inl was) = so_far.marks k was
-    marked_by k (inr concerns) = inr (concerned old.parts k (subst (λ (parts : List HeldPart). Concerns parts k node) so_far.parts concerns))
+    marked_by k (inr concerns) = inr (concerned old.parts k (subst (λ (parts : List MachinePart). Concerns parts k node) so_far.parts concerns))
 
 -- nothing was placed yet
 assigns-none : (g : GraphData) (given : List ℕ) (machine : MachineData) → Assigns g given machine machine

@@ -1,6 +1,6 @@
 -- The machine's numbers are those of the graph's groups and of their texts.
 use Rattle.std.proofs.Common.{◌≡◌, ℕ, List, length, count_by, Option, IfSome, sym, ap, subst, ◌∙◌}
-use Rattle.path_meaning.specs.Graphs.{GraphData}
+use Rattle.switch_paths.specs.Graphs.{GraphData}
 use Rattle.group_meaning.proofs.UniqueGroups.{unique}
 use Rattle.group_text.specs.Texts.{GroupTextData}
 use Rattle.group_text.specs.FirstTexts.{first_texts}

@@ -3,12 +3,12 @@
 use Rattle.std.proofs.Common.{◌≡◌, ℕ, zero, suc, ◌<◌, inl, inr, Bool, false, List, refl, sym, ap, subst, arith}
 use Rattle.std.specs.Prelude.{IsTrue}
 use Rattle.ternary.specs.declared.tern.Tern.{Tern}
-use Rattle.path_meaning.specs.Switching.{state_at}
-use Rattle.path_meaning.specs.Graphs.{GraphData}
-use Rattle.path_meaning.specs.Step.{IsStep}
-use Rattle.path_meaning.proofs.UniqueSteps.{unique}
-use Rattle.oscillation_x.specs.Settling.{Settles, Joining}
-use Rattle.oscillation_x.proofs.SettlingLemmas.{Stepping-steady}
+use Rattle.switch_paths.specs.Switching.{state_at}
+use Rattle.switch_paths.specs.Graphs.{GraphData}
+use Rattle.switch_paths.specs.Step.{IsStep}
+use Rattle.switch_paths.proofs.UniqueSteps.{unique}
+use Rattle.settling.specs.Settling.{Settles, Joining}
+use Rattle.settling.proofs.SettlingLemmas.{Stepping-steady}
 use Rattle.machine_laws.specs.Machines.{MachineData, TouchesChanged, IsAtRest}
 use Rattle.machine_laws.proofs.FittingLemmas.{nothing_touched}
 use Rattle.machine_stage.specs.Stages.{TakesStep}

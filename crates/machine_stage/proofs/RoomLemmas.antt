@@ -1,7 +1,7 @@
 -- What holds of a machine holds of it without its room, and the other way round: no fact but the room itself speaks of it.
 use Rattle.std.proofs.Common.{◌≡◌, ℕ, ◌<◌, Bool, false, List, Some, None, refl, sym, subst, rules}
 use Rattle.ternary.specs.declared.tern.Tern.{Tern}
-use Rattle.path_meaning.specs.Graphs.{GraphData}
+use Rattle.switch_paths.specs.Graphs.{GraphData}
 use Rattle.channel_groups.specs.declared.change.Change.{Change}
 use Rattle.machine_parts.specs.Parts.{HasMember}
 use Rattle.machine_laws.specs.Machines.{MachineData, Places, IsAtRest}

@@ -4,9 +4,9 @@ use Rattle.std.specs.Prelude.{Result, IfSome, IfOk, OnOk, OnErr}
 use Rattle.std.proofs.lemmas.List.{map-append}
 use Rattle.std.proofs.lemmas.List.Elements.{All-nil, All-cons, All-append}
 use Rattle.ternary.specs.declared.tern.Tern.{Tern}
-use Rattle.path_meaning.specs.Graphs.{GraphData, IsWired, FitsPlace, nodes}
-use Rattle.path_meaning.specs.Step.{IsStep}
-use Rattle.oscillation_x.specs.Settling.{Settles}
+use Rattle.switch_paths.specs.Graphs.{GraphData, IsWired, FitsPlace, nodes}
+use Rattle.switch_paths.specs.Step.{IsStep}
+use Rattle.settling.specs.Settling.{Settles}
 use Rattle.straight_code.specs.Code.{CodeData}
 use Rattle.group_text.specs.Texts.{GroupTextData}
 use Rattle.group_analysis.specs.Using.{used_texts}

@@ -1,7 +1,7 @@
 -- A machine after clocks' nodes were placed: they are input nodes, so it fits still, and no member was placed.
 use Rattle.std.proofs.Common.{◌≡◌, All, List, Option, None, Some, refl, sym, ap, ◌∙◌}
 use Rattle.strength_order.specs.declared.TheConstants.{INPUT_LEVEL}
-use Rattle.path_meaning.specs.Graphs.{GraphData, level_of}
+use Rattle.switch_paths.specs.Graphs.{GraphData, level_of}
 use Rattle.machine_laws.specs.Machines.{MachineData}
 use Rattle.session_meaning.specs.Sessions.{ClockData}
 use Rattle.machine_stage.specs.Machines.{FitsIn, moves_of, placed_of}

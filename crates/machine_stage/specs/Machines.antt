@@ -3,11 +3,11 @@
 use Rattle.std.specs.Prelude.{◌≡◌, ◌≢◌, ℕ, ◌<◌, ◌⊎◌, true, false, List, [], ◌∷◌, ◌++◌, map, sum_by, Contains, Option, None, Some, IfSome, is_some}
 use Rattle.ternary.specs.declared.tern.Tern.{Tern}
 use Rattle.ternary.specs.Counts.{raised}
-use Rattle.path_meaning.specs.Graphs.{GraphData}
-use Rattle.path_meaning.specs.Switching.{state_at}
+use Rattle.switch_paths.specs.Graphs.{GraphData}
+use Rattle.switch_paths.specs.Switching.{state_at}
 use Rattle.group_text.specs.Texts.{GroupTextData}
 use Rattle.group_analysis.specs.Using.{used_texts}
-use Rattle.machine_parts.specs.declared.part.HeldPart.{HeldPart}
+use Rattle.machine_parts.specs.declared.part.MachinePart.{MachinePart}
 use Rattle.machine_laws.specs.Machines.{MachineData, TouchesChanged, IsAtRest}
 use Rattle.machine_parts.specs.Parts.{IsStale}
 use Rattle.machine_parts.specs.Marking.{IsMarked}
@@ -57,12 +57,12 @@ abbrev pub IsMachineOf : SessionData → MachineData → Type 0
 IsMachineOf session machine = Serves session.circuit.graph session.state session.kept machine
 
 -- one column
-abbrev pub lanes_in : StageData → ℕ
-lanes_in stage = 1
+abbrev pub columns_on : StageData → ℕ
+columns_on stage = 1
 
 -- it has the stage's states
 abbrev pub states_in : StageData → ℕ → List Tern
-states_in stage lane = stage.state
+states_in stage column = stage.state
 
 -- what machine there is serves the graph
 abbrev pub ServesIn : StageData → GraphData → List GroupTextData → Type 0
@@ -70,7 +70,7 @@ ServesIn stage g kept = IfSome stage.machine (Serves g stage.state kept)
 
 -- the data are those of a session, and what machine there is is theirs
 abbrev pub IsHeldMachine : HeldSession StageData → Type 0
-IsHeldMachine session = IsHeldSession lanes_in states_in ServesIn session
+IsHeldMachine session = IsHeldSession columns_on states_in ServesIn session
 
 -- there is a machine, and it fits the graph
 pub record FitsIn (g : GraphData) (found : Option MachineData) : Type 0 where
@@ -137,7 +137,7 @@ pub record SettlesMachine (old : HeldSession StageData) (run : Run) (new : HeldS
   pub moves : MovesMachine old.core.limit old.stage.machine new.stage.machine lines
 
 -- the part with this number has one of these nodes as a member or reads one
-pub record ConcernsGiven (given : List ℕ) (parts : List HeldPart) (k : ℕ) : Type 0 where
+pub record ConcernsGiven (given : List ℕ) (parts : List MachinePart) (k : ℕ) : Type 0 where
   pub node : ℕ
   pub among : Contains given node
   pub concerns : Concerns parts k node
@@ -160,7 +160,7 @@ abbrev pub nodes_given : SessionData → List (List ℕ × Value) → List ℕ
 nodes_given session list = map (λ pair. pair.0) (states_by session.circuit session.vectors list)
 
 -- the part with this number has a node as a member or reads one whose states differ
-pub record ConcernsOther (before after : List Tern) (parts : List HeldPart) (k : ℕ) : Type 0 where
+pub record ConcernsOther (before after : List Tern) (parts : List MachinePart) (k : ℕ) : Type 0 where
   pub node : ℕ
   pub differs : state_at before node ≢ state_at after node
   pub concerns : Concerns parts k node

@@ -3,12 +3,12 @@ use Rattle.std.specs.Prelude.{◌≡◌, ◌≢◌, ℕ, ◌<◌, ◌⊎◌, Boo
 use Rattle.ternary.specs.declared.tern.Tern.{Tern}
 use Rattle.ternary.specs.Counts.{raised}
 use Rattle.strength_order.specs.declared.TheConstants.{INPUT_LEVEL}
-use Rattle.path_meaning.specs.Graphs.{GraphData, level_of}
-use Rattle.path_meaning.specs.Step.{IsStep}
-use Rattle.oscillation_x.specs.declared.settling.Settled.{Settled}
-use Rattle.oscillation_x.specs.Settling.{Settles}
+use Rattle.switch_paths.specs.Graphs.{GraphData, level_of}
+use Rattle.switch_paths.specs.Step.{IsStep}
+use Rattle.settling.specs.declared.settling.Settled.{Settled}
+use Rattle.settling.specs.Settling.{Settles}
 use Rattle.group_text.specs.Texts.{GroupTextData}
-use Rattle.machine_parts.specs.declared.part.HeldPart.{HeldPart}
+use Rattle.machine_parts.specs.declared.part.MachinePart.{MachinePart}
 use Rattle.machine_parts.specs.Parts.{HasMember, IsStale}
 use Rattle.machine_laws.specs.Machines.{MachineData, Places, TouchesChanged, IsAtRest}
 use Rattle.machine_parts.specs.Marking.{IsMarked}
@@ -54,7 +54,7 @@ PutsIn g node value (Some machine) new = (next : MachineData) × (new ≡ Some n
 
 -- some nodes were placed in a machine: it covers a graph that it covered, its texts are kept that were, those of the last build and the parts
 -- are the same, it didn't move, and it marked no more than what these nodes concern
-pub record PlacesSome (g : GraphData) (Concerned : List HeldPart → ℕ → Type 0) (old new : MachineData) : Type 0 where
+pub record PlacesSome (g : GraphData) (Concerned : List MachinePart → ℕ → Type 0) (old new : MachineData) : Type 0 where
   pub covers : Covers g old → Covers g new
   pub known : (kept : List GroupTextData) → IsKeptBy g kept old → IsKeptBy g kept new
   pub last : new.last ≡ old.last

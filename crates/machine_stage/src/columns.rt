@@ -5,17 +5,17 @@ use analysis_cache::{Analyst, Kept};
 use channel_groups::Change;
 use circuit_texts::BuildFault;
 use column_stage::Stage;
-use oscillation_x::{Blind, Settled};
-use path_meaning::{Graph, graphs_are_wired};
+use settling::{Blind, Settled};
 use std::alloc::Global;
+use switch_paths::{Graph, graphs_are_wired};
 use ternary::{NoMemory, Tern};
 
 impl Stage for MachineStage {
     ghost use Rattle.circuit_texts.specs.Building.{IsCutOff};
-    ghost use Rattle.machine_stage.specs.Machines.{FitsIn, ServesIn, lanes_in, last_in, states_in};
+    ghost use Rattle.machine_stage.specs.Machines.{FitsIn, ServesIn, columns_on, last_in, states_in};
     ghost use Rattle.machine_stage.specs.Stages.{DidAct};
 
-    ghost lanes = { lanes_in };
+    ghost columns = { columns_on };
 
     ghost states = { states_in };
 
@@ -31,11 +31,11 @@ impl Stage for MachineStage {
 
     ghost did = { DidAct };
 
-    fn lanes(&self) -> u32 {
+    fn columns(&self) -> u32 {
         1
     }
 
-    fn state(&self, node: usize, _lane: u32) -> Tern {
+    fn state(&self, node: usize, _column: u32) -> Tern {
         self.states()[node]
     }
 

@@ -4,11 +4,11 @@ ghost use Rattle.std.specs.Prelude.{◌≡◌, ◌≢◌, ◌<◌, ◌≤◌, fa
 ghost use Rattle.ternary.specs.declared.tern.Tern.{Tern};
 ghost use Rattle.std.specs.Bool.{OnTrue, OnFalse};
 ghost use Rattle.ternary.specs.Counts.{raised};
-ghost use Rattle.path_meaning.specs.declared.TheConstants.{RAILS};
-ghost use Rattle.path_meaning.specs.Step.{IsStep};
-ghost use Rattle.oscillation_x.specs.Moved.{ListsChanges};
-ghost use Rattle.oscillation_x.specs.Passing.{SteppingThrough};
-ghost use Rattle.oscillation_x.specs.Settling.{Settles};
+ghost use Rattle.switch_paths.specs.declared.TheConstants.{RAILS};
+ghost use Rattle.switch_paths.specs.Step.{IsStep};
+ghost use Rattle.settling.specs.Moved.{ListsChanges};
+ghost use Rattle.settling.specs.Passing.{SteppingThrough};
+ghost use Rattle.settling.specs.Settling.{Settles};
 ghost use Rattle.machine_laws.specs.Machines.{Advances, IsAtRest};
 ghost use Rattle.machine_laws.specs.Fitting.{FitsGraph};
 ghost use Rattle.unit_step.specs.Listing.{nodes_told};
@@ -16,10 +16,10 @@ ghost use Rattle.machine_stage.specs.Machines.{without_room};
 ghost use Rattle.column_stage.specs.Seeing.{PhaseThrough, SeesStates};
 ghost use Rattle.machine_stage.specs.Stages.{PutsNode, TakesStep, TakesPhase};
 
-use oscillation_x::{MOST_LIMIT, Onlooker, Settled, settle_seen, unfailing};
-use path_meaning::Graph;
+use settling::{MOST_LIMIT, Onlooker, Settled, settle_seen, unfailing};
 use std::marker::Brand;
 use std::sync::ledger::{Blank, Ledger};
+use switch_paths::Graph;
 use ternary::{Steps, Tern};
 use unit_step::{Machine, Watched};
 

@@ -3,8 +3,8 @@
 use crate::stage::MachineStage;
 use channel_groups::Groups;
 use column_stage::PlainStage;
-use oscillation_x::{Onlooker, Settled};
-use path_meaning::Graph;
+use settling::{Onlooker, Settled};
+use switch_paths::Graph;
 use ternary::Tern;
 
 impl PlainStage for MachineStage {

@@ -1,7 +1,7 @@
 //! What an edit of the graph does to a stage's state and its machine.
 
 ghost use Rattle.std.specs.Prelude.{◌≡◌, ◌≢◌, ◌↔◌, ◌+◌, ◌≤◌, true, length, IfSome, IfOk, IfErr};
-ghost use Rattle.path_meaning.specs.Graphs.{nodes, IsWired};
+ghost use Rattle.switch_paths.specs.Graphs.{nodes, IsWired};
 ghost use Rattle.channel_groups.specs.Changes.{undo};
 ghost use Rattle.machine_laws.specs.Fitting.{Covers};
 ghost use Rattle.group_analysis.specs.Using.{used_texts};
@@ -15,9 +15,9 @@ ghost use Rattle.machine_stage.specs.Held.{state_held, machine_held, spare_held,
 use crate::stage::Held;
 use analysis_cache::Kept;
 use channel_groups::Change;
-use path_meaning::Graph;
 use std::marker::Brand;
 use std::sync::ledger::{Blank, Ledger};
+use switch_paths::Graph;
 use ternary::{Steps, Tern};
 use unit_step::{EditRefused, Machine, grow};
 

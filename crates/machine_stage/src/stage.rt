@@ -1,10 +1,10 @@
 //! The state of a circuit's nodes, and the machine that moves it, if there is one.
 
 ghost use Rattle.std.specs.Prelude.{◌≡◌, ◌+◌, ◌<◌, ◌≤◌, ◌⊎◌, true, None, Some, Err, is_some, length, count_by, option_map, slice_set, IfSome, IfOk, IfErr, OnOk, OnErr};
-ghost use Rattle.path_meaning.specs.declared.TheConstants.{RAILS};
-ghost use Rattle.path_meaning.specs.Graphs.{nodes, IsWired};
-ghost use Rattle.path_meaning.specs.Rails.{IsRailed, IsSound};
-ghost use Rattle.oscillation_x.specs.Passing.{SteppingThrough};
+ghost use Rattle.switch_paths.specs.declared.TheConstants.{RAILS};
+ghost use Rattle.switch_paths.specs.Graphs.{nodes, IsWired};
+ghost use Rattle.switch_paths.specs.Rails.{IsRailed, IsSound};
+ghost use Rattle.settling.specs.Passing.{SteppingThrough};
 ghost use Rattle.channel_groups.specs.Changes.{undo};
 ghost use Rattle.analysis_cache.specs.Keeping.{texts_of, IsGrown};
 ghost use Rattle.circuit_texts.specs.Sizes.{TellsRefused};
@@ -23,11 +23,11 @@ use crate::regrouping::regrouped;
 use analysis_cache::{Analyst, Kept};
 use channel_groups::Change;
 use circuit_texts::BuildFault;
-use oscillation_x::{MOST_LIMIT, Onlooker, Settled};
-use path_meaning::{Graph, RAILS};
+use settling::{MOST_LIMIT, Onlooker, Settled};
 use std::alloc::Global;
 use std::marker::Model;
 use std::mem;
+use switch_paths::{Graph, RAILS};
 use ternary::{NoMemory, Tern};
 use unit_step::{Codes, Machine, NEW_NODES};
 

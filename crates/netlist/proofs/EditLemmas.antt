@@ -9,10 +9,10 @@ use Rattle.std.proofs.lemmas.List.Elements.{All-head, All-nil, All-cons, All-set
 use Rattle.line_words.specs.Visible.{IsVisibleName}
 use Rattle.strength_order.specs.declared.TheConstants.{LEAST_SIZE_LEVEL}
 use Rattle.strength_order.specs.Levels.{level_of_strength}
-use Rattle.path_meaning.specs.declared.switching.Switch.{Switch}
-use Rattle.path_meaning.specs.declared.switching.SwitchKind.{SwitchKind}
-use Rattle.path_meaning.specs.declared.TheConstants.{GND, VDD, RAILS}
-use Rattle.path_meaning.specs.Graphs.{Fits, FitsPlace, nodes, place_at}
+use Rattle.switch_paths.specs.declared.switching.Switch.{Switch}
+use Rattle.switch_paths.specs.declared.switching.SwitchKind.{SwitchKind}
+use Rattle.switch_paths.specs.declared.TheConstants.{GND, VDD, RAILS}
+use Rattle.switch_paths.specs.Graphs.{Fits, FitsPlace, nodes, place_at}
 use Rattle.netlist.specs.declared.fault.EditFault.TheVariants.{NoSuchSwitch, BadStrength}
 use Rattle.netlist.specs.Names.{first_name, name_at, node_of}
 use Rattle.netlist.specs.Circuits.{CircuitData, IsCircuit, HasVisibleNames, called}

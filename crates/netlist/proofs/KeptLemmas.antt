@@ -10,10 +10,10 @@ use Rattle.strength_order.specs.declared.TheConstants.{INPUT_LEVEL, LEAST_SIZE_L
 use Rattle.strength_order.specs.declared.Profile.{Profile}
 use Rattle.strength_order.specs.declared.Profile.TheVariants.{One, Two}
 use Rattle.strength_order.specs.Levels.{IsLevel, greatest_size, greatest_strength, level_of_size, level_of_strength}
-use Rattle.path_meaning.specs.declared.switching.Switch.{Switch}
-use Rattle.path_meaning.specs.declared.switching.SwitchKind.{SwitchKind}
-use Rattle.path_meaning.specs.Graphs.{Fits, FitsPlace, nodes}
-use Rattle.path_meaning.specs.declared.TheConstants.{GND, VDD, RAILS}
+use Rattle.switch_paths.specs.declared.switching.Switch.{Switch}
+use Rattle.switch_paths.specs.declared.switching.SwitchKind.{SwitchKind}
+use Rattle.switch_paths.specs.Graphs.{Fits, FitsPlace, nodes}
+use Rattle.switch_paths.specs.declared.TheConstants.{GND, VDD, RAILS}
 use Rattle.netlist.specs.declared.fault.EditFault.TheVariants.{Rail, BadSize}
 use Rattle.netlist.specs.Faults.{MakingFault}
 use Rattle.netlist.specs.Faults.MakingFault.{BadStrength}

@@ -8,7 +8,7 @@ use Rattle.std.proofs.lemmas.List.{append-nil, get_or_append_left, get_or_push}
 use Rattle.std.proofs.lemmas.List.Elements.{All-push, All-weaker}
 use Rattle.std.proofs.lemmas.Option.{slice_get-get_or, slice_get_within, slice_get-map, get_or_from_slice_get}
 use Rattle.std.specs.declared.alloc.Global.{Global}
-use Rattle.path_meaning.specs.declared.TheConstants.{GND, VDD, RAILS}
+use Rattle.switch_paths.specs.declared.TheConstants.{GND, VDD, RAILS}
 use Rattle.netlist.specs.Names.{StandOnce, first_name, held, name_at, node_of}
 use Rattle.netlist.specs.Naming.{NamesData, node_count, IsFirst, IsNaming, Extends, HasNode, entries_of, with_first, with_name, with_names, with_more, cut}
 use Rattle.netlist.proofs.NameLemmas.{first_name-append, first_name-added, node_of-append, node_of-added}

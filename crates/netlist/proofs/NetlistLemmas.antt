@@ -8,9 +8,9 @@ use Rattle.std.proofs.lemmas.List.{append-nil, replicate-append-replicate, lengt
 use Rattle.strength_order.specs.declared.TheConstants.{LEAST_SIZE_LEVEL}
 use Rattle.strength_order.specs.declared.Profile.{Profile}
 use Rattle.strength_order.specs.Levels.{IsStrength, greatest_strength, level_of_strength}
-use Rattle.path_meaning.specs.declared.switching.Switch.{Switch}
-use Rattle.path_meaning.specs.declared.switching.SwitchKind.{SwitchKind}
-use Rattle.path_meaning.specs.Graphs.{GraphData, IsWired, nodes}
+use Rattle.switch_paths.specs.declared.switching.Switch.{Switch}
+use Rattle.switch_paths.specs.declared.switching.SwitchKind.{SwitchKind}
+use Rattle.switch_paths.specs.Graphs.{GraphData, IsWired, nodes}
 use Rattle.netlist.specs.declared.names.Terminals.{Terminals}
 use Rattle.netlist.specs.declared.fault.EditFault.TheVariants as fault
 use Rattle.netlist.specs.Names.{node_of}

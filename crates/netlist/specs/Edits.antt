@@ -4,12 +4,12 @@ use Rattle.std.specs.Prelude.{ℕ, ◌==◌, ◌&&◌, Bool, List, [], ◌∷◌
 use Rattle.strength_order.specs.declared.TheConstants.{INPUT_LEVEL, LEAST_SIZE_LEVEL}
 use Rattle.strength_order.specs.declared.Profile.{Profile}
 use Rattle.strength_order.specs.Levels.{greatest_size, greatest_strength, level_of_size, level_of_strength}
-use Rattle.path_meaning.specs.declared.switching.Switch.{Switch}
-use Rattle.path_meaning.specs.declared.switching.SwitchKind.{SwitchKind}
-use Rattle.path_meaning.specs.declared.switching.SwitchKind.TheVariants.{NChan, PChan, Always}
-use Rattle.path_meaning.specs.Graphs.{nodes, place_at}
+use Rattle.switch_paths.specs.declared.switching.Switch.{Switch}
+use Rattle.switch_paths.specs.declared.switching.SwitchKind.{SwitchKind}
+use Rattle.switch_paths.specs.declared.switching.SwitchKind.TheVariants.{NChan, PChan, Always}
+use Rattle.switch_paths.specs.Graphs.{nodes, place_at}
 use Rattle.netlist.specs.declared.TheConstants.{MOST_NODES, MOST_SWITCHES}
-use Rattle.path_meaning.specs.declared.TheConstants.{RAILS}
+use Rattle.switch_paths.specs.declared.TheConstants.{RAILS}
 use Rattle.netlist.specs.declared.fault.EditFault.{EditFault}
 use Rattle.netlist.specs.declared.fault.EditFault.TheVariants as fault
 use Rattle.netlist.specs.Faults.{MakingFault}

@@ -1,6 +1,6 @@
 -- Laws of a circuit's edits.
 use Rattle.std.specs.Prelude.{◌≡◌, ℕ, ◌≤◌, List, length, true, None, is_some}
-use Rattle.path_meaning.specs.declared.switching.SwitchKind.{SwitchKind}
+use Rattle.switch_paths.specs.declared.switching.SwitchKind.{SwitchKind}
 use Rattle.netlist.specs.Circuits.{CircuitData}
 use Rattle.netlist.specs.Edits.{switch_numbered, with_alias, with_input, with_kind, with_node, with_store, with_strength, with_transistor, with_wires, without_switch}
 

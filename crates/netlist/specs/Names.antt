@@ -1,7 +1,7 @@
 -- The names of a circuit: the node that each stands for, and the first name of each node.
 use Rattle.std.specs.Prelude.{◌≡◌, ℕ, Bool, ◌||◌, ◌==◌, List, [], ◌∷◌, map, codes, bytes_eq, slice_get, Option, Some, None, if◌then◌else◌}
 use Rattle.std.specs.Char.{to_ascii_lowercase}
-use Rattle.path_meaning.specs.declared.TheConstants.{GND, VDD}
+use Rattle.switch_paths.specs.declared.TheConstants.{GND, VDD}
 
 -- the name is this word, given in small letters, in any ASCII case
 abbrev pub spells : List ℕ → List ℕ → Bool

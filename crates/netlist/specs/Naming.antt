@@ -2,8 +2,8 @@
 use Rattle.std.specs.Prelude.{◌≡◌, ℕ, ◌+◌, ◌<◌, List, [], ◌∷◌, ◌++◌, length, map, take, All, Some, Vec, is_some, slice_get, slice_index, if◌then◌else◌}
 use Rattle.std.specs.declared.alloc.Global.{Global}
 use Rattle.strength_order.specs.declared.TheConstants.{INPUT_LEVEL}
-use Rattle.path_meaning.specs.Graphs.{GraphData, nodes, level_of}
-use Rattle.path_meaning.specs.declared.TheConstants.{GND, VDD, RAILS}
+use Rattle.switch_paths.specs.Graphs.{GraphData, nodes, level_of}
+use Rattle.switch_paths.specs.declared.TheConstants.{GND, VDD, RAILS}
 use Rattle.netlist.specs.declared.names.Terminals.{Terminals}
 use Rattle.netlist.specs.Names.{StandOnce, first_name, node_of}
 

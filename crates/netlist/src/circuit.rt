@@ -1,6 +1,6 @@
 //! The circuit, and its edits.
 ghost use Rattle.std.specs.Prelude.{◌≡◌, ◌-◌, ◌<◌, ◌≤◌, ◌⊎◌, [], ◌∷◌, ◌++◌, length, replicate, slice_get, slice_set, IfOk, IfErr, IfSome, OnOk, OnErr, None, Some};
-ghost use Rattle.path_meaning.specs.Graphs.{nodes, Fits};
+ghost use Rattle.switch_paths.specs.Graphs.{nodes, Fits};
 ghost use Rattle.netlist.specs.Names.{name_at, node_of};
 ghost use Rattle.netlist.specs.Naming.{node_count, with_first, with_name_of, Extends};
 ghost use Rattle.netlist.specs.Circuits.{IsCircuit, rails_alone};
@@ -10,10 +10,10 @@ ghost use Rattle.netlist.specs.Edits.{add_fault, alias_fault, answer_of, count_f
 use crate::fault::EditFault;
 use crate::names::Names;
 use crate::{MOST_NODES, MOST_SWITCHES, RAILS};
-use path_meaning::{Graph, Switch, SwitchKind, graphs_are_wired};
 use std::alloc::Global;
 use std::marker::Model;
 use strength_order::{INPUT_LEVEL, LEAST_SIZE_LEVEL, Profile, size_level, switch_level};
+use switch_paths::{Graph, Switch, SwitchKind, graphs_are_wired};
 use table_keys::TableKeys;
 use ternary::NoMemory;
 

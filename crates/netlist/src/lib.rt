@@ -35,8 +35,8 @@ mod strengths;
 pub use circuit::Circuit;
 pub use fault::EditFault;
 pub use laws::{limits_are_as_stated, removed_numbers_stay_free};
-pub use path_meaning::{GND, RAILS, VDD};
 pub use strengths::usual_strength;
+pub use switch_paths::{GND, RAILS, VDD};
 
 /// The most nodes of a circuit, the rails included.
 pub const MOST_NODES: usize = 1_000_000;

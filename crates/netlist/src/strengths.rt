@@ -2,7 +2,7 @@
 ghost use Rattle.std.specs.Prelude.{◌≡◌};
 ghost use Rattle.netlist.specs.Edits as spec;
 
-use path_meaning::SwitchKind;
+use switch_paths::SwitchKind;
 
 /// The strength of a transistor that nothing sets: 1 for depletion, 2 for the others.
 pub fn usual_strength(kind: SwitchKind) -> u64

@@ -12,7 +12,7 @@ use Rattle.std.proofs.lemmas.Map.Views.{list_any-from_Contains, Contains-from_an
 use Rattle.std.proofs.Math.Nat.{pow-succ', pow-zero, mul-one, mul-add, mul_comm, mul_left_comm}
 use Rattle.ternary.specs.declared.tern.Tern.{Tern}
 use Rattle.ternary.specs.Tern.{may_one, may_zero}
-use Rattle.path_meaning.specs.Graphs.{GraphData, IsWired, nodes}
+use Rattle.switch_paths.specs.Graphs.{GraphData, IsWired, nodes}
 use Rattle.bool_pool.specs.declared.gate.Gate.{Gate}
 use Rattle.bool_pool.specs.declared.gate.Id.{Id}
 use Rattle.bool_pool.specs.declared.gate.Rails.{Rails}

@@ -7,11 +7,11 @@ use Rattle.std.proofs.lemmas.List.Elements.{All-append, All-push, All-replicate,
 use Rattle.std.proofs.lemmas.List.Sums.{count_by_more_yes, count_by_more_no, sum_by-take-le}
 use Rattle.ternary.specs.declared.tern.Tern.{Tern}
 use Rattle.ternary.specs.Tern.{may_one, may_zero}
-use Rattle.path_meaning.specs.declared.switching.Switch.{Switch}
-use Rattle.path_meaning.specs.Switching.{state_at, state_by}
-use Rattle.path_meaning.specs.Spread.{passes}
-use Rattle.path_meaning.specs.Graphs.{GraphData, IsWired, nodes, place_at}
-use Rattle.path_meaning.proofs.PathLemmas.{switch_fits}
+use Rattle.switch_paths.specs.declared.switching.Switch.{Switch}
+use Rattle.switch_paths.specs.Switching.{state_at, state_by}
+use Rattle.switch_paths.specs.Spread.{passes}
+use Rattle.switch_paths.specs.Graphs.{GraphData, IsWired, nodes, place_at}
+use Rattle.switch_paths.proofs.PathLemmas.{switch_fits}
 use Rattle.bool_pool.specs.declared.gate.Gate.{Gate}
 use Rattle.bool_pool.specs.declared.gate.Id.{Id}
 use Rattle.bool_pool.specs.declared.gate.Rails.{Rails}

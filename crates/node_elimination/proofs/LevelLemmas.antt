@@ -5,12 +5,12 @@ use Rattle.std.proofs.Common.{◌≡◌, ◌≢◌, ℕ, zero, suc, ◌+◌, ◌
 use Rattle.std.specs.Prelude.{◌↔◌}
 use Rattle.ternary.specs.declared.tern.Tern.{Tern}
 use Rattle.strength_order.specs.declared.TheConstants.{INPUT_LEVEL}
-use Rattle.path_meaning.specs.Switching.{is_closed, state_at, switch_state_at}
-use Rattle.path_meaning.specs.Graphs.{GraphData, IsWired, Fits, nodes, level_of}
-use Rattle.path_meaning.specs.Path.{Stand, Hop, Leads, at_root, IsBeaten}
-use Rattle.path_meaning.specs.Step.{Responds}
-use Rattle.path_meaning.proofs.PathLemmas.{IsBeaten-lower, beyond, Hop-over, Leads-more, Leads-definite, Leads-weaker, Leads-positive, level_fits, switch_fits, Goes, Goes-here, Goes-leads, Goes-more, Goes-from_unblocked, unblocked-from_Goes}
-use Rattle.path_meaning.proofs.StrongestPaths.{closed-live, and-second, in_range-from_level}
+use Rattle.switch_paths.specs.Switching.{is_closed, state_at, switch_state_at}
+use Rattle.switch_paths.specs.Graphs.{GraphData, IsWired, Fits, nodes, level_of}
+use Rattle.switch_paths.specs.Path.{Stand, Hop, Leads, at_root, IsBeaten}
+use Rattle.switch_paths.specs.Step.{Responds}
+use Rattle.switch_paths.proofs.PathLemmas.{IsBeaten-lower, beyond, Hop-over, Leads-more, Leads-definite, Leads-weaker, Leads-positive, level_fits, switch_fits, Goes, Goes-here, Goes-leads, Goes-more, Goes-from_unblocked, unblocked-from_Goes}
+use Rattle.switch_paths.proofs.StrongestPaths.{closed-live, and-second, in_range-from_level}
 use Rattle.node_elimination.specs.Levels.{Reached, IsClear, Driven, IsUnused}
 use Rattle.node_elimination.specs.Levels.Reached.{own, over}
 use Rattle.node_elimination.specs.Levels.Driven.{above, root, onto}

@@ -5,11 +5,11 @@ use Rattle.std.proofs.lemmas.Bool.{cases_lt}
 use Rattle.std.proofs.lemmas.List.{length-append}
 use Rattle.ternary.specs.declared.tern.Tern.{Tern}
 use Rattle.strength_order.specs.declared.TheConstants.{INPUT_LEVEL}
-use Rattle.path_meaning.specs.declared.switching.Switch.{Switch}
-use Rattle.path_meaning.specs.Switching.{is_closed, is_live, state_at, switch_state_at}
-use Rattle.path_meaning.specs.Graphs.{GraphData, IsWired, Fits, nodes, level_of, place_at}
-use Rattle.path_meaning.specs.Path.{Joins}
-use Rattle.path_meaning.proofs.PathLemmas.{switch_fits}
+use Rattle.switch_paths.specs.declared.switching.Switch.{Switch}
+use Rattle.switch_paths.specs.Switching.{is_closed, is_live, state_at, switch_state_at}
+use Rattle.switch_paths.specs.Graphs.{GraphData, IsWired, Fits, nodes, level_of, place_at}
+use Rattle.switch_paths.specs.Path.{Joins}
+use Rattle.switch_paths.proofs.PathLemmas.{switch_fits}
 use Rattle.bool_pool.specs.declared.gate.Gate.{Gate}
 use Rattle.bool_pool.specs.declared.gate.Id.{Id}
 use Rattle.bool_pool.specs.Reach.{IsWithin}

@@ -3,9 +3,9 @@ use Rattle.std.proofs.Common.{◌≡◌, ℕ, ◌+◌, ◌*◌, ◌<◌, ◌≤�
 use Rattle.std.specs.Prelude.{is_some, count_by, if◌then◌else◌}
 use Rattle.std.proofs.lemmas.Bool.{cases_Bool}
 use Rattle.std.proofs.lemmas.List.Sums.{count_by_more_yes, count_by_more_no}
-use Rattle.path_meaning.specs.declared.switching.Switch.{Switch}
-use Rattle.path_meaning.specs.Graphs.{GraphData, nodes, place_at}
-use Rattle.path_meaning.specs.Path.{Joins}
+use Rattle.switch_paths.specs.declared.switching.Switch.{Switch}
+use Rattle.switch_paths.specs.Graphs.{GraphData, nodes, place_at}
+use Rattle.switch_paths.specs.Path.{Joins}
 use Rattle.bool_pool.specs.declared.gate.Gate.{Gate}
 use Rattle.bool_pool.specs.declared.gate.Id.{Id}
 use Rattle.bool_pool.specs.Gate.{Extends}

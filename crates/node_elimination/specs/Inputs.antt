@@ -2,10 +2,10 @@
 use Rattle.std.specs.Prelude.{◌≡◌, ℕ, ◌<◌, Bool, true, false, List, ◌++◌, length, take, replicate, Option, Some, is_some, count_by, if◌then◌else◌}
 use Rattle.ternary.specs.declared.tern.Tern.{Tern}
 use Rattle.ternary.specs.Tern.{may_one, may_zero}
-use Rattle.path_meaning.specs.declared.switching.Switch.{Switch}
-use Rattle.path_meaning.specs.Switching.{is_closed, is_live, state_at, state_by, switch_state_at}
-use Rattle.path_meaning.specs.Spread.{passes}
-use Rattle.path_meaning.specs.Graphs.{GraphData, nodes, place_at}
+use Rattle.switch_paths.specs.declared.switching.Switch.{Switch}
+use Rattle.switch_paths.specs.Switching.{is_closed, is_live, state_at, state_by, switch_state_at}
+use Rattle.switch_paths.specs.Spread.{passes}
+use Rattle.switch_paths.specs.Graphs.{GraphData, nodes, place_at}
 use Rattle.bool_pool.specs.declared.gate.Gate.{Gate}
 use Rattle.bool_pool.specs.declared.gate.Id.{Id}
 use Rattle.bool_pool.specs.Value.{value_at}

@@ -2,9 +2,9 @@
 -- After Bryant, "Boolean Analysis of MOS Circuits", 1987.
 use Rattle.std.specs.Prelude.{◌≡◌, ℕ, ◌≤◌, ◌↔◌, Bool, true, List}
 use Rattle.ternary.specs.declared.tern.Tern.{Tern}
-use Rattle.path_meaning.specs.Switching.{state_at}
-use Rattle.path_meaning.specs.Graphs.{GraphData, IsWired}
-use Rattle.path_meaning.specs.Path.{Stand, LivePath, HasDefinite, IsBlocked}
+use Rattle.switch_paths.specs.Switching.{state_at}
+use Rattle.switch_paths.specs.Graphs.{GraphData, IsWired}
+use Rattle.switch_paths.specs.Path.{Stand, LivePath, HasDefinite, IsBlocked}
 use Rattle.node_elimination.specs.Solution.{Sol, without, edge_past, right_past}
 use Rattle.node_elimination.specs.Levels.{Reached, Driven}
 

@@ -5,9 +5,9 @@ use Rattle.bool_pool.specs.declared.gate.Gate.{Gate}
 use Rattle.bool_pool.specs.declared.gate.Id.{Id}
 use Rattle.bool_pool.specs.Reach.{IsWithin}
 use Rattle.bool_pool.specs.Value.{value_at}
-use Rattle.path_meaning.specs.declared.switching.Switch.{Switch}
-use Rattle.path_meaning.specs.Graphs.{GraphData, nodes, level_of, place_at}
-use Rattle.path_meaning.specs.Path.{Joins}
+use Rattle.switch_paths.specs.declared.switching.Switch.{Switch}
+use Rattle.switch_paths.specs.Graphs.{GraphData, nodes, level_of, place_at}
+use Rattle.switch_paths.specs.Path.{Joins}
 use Rattle.node_elimination.specs.declared.level.Links.{Links}
 use Rattle.node_elimination.specs.Solution.{Sol}
 use Rattle.node_elimination.specs.Growth.{place_of, AreFormulas}

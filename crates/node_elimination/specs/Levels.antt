@@ -2,10 +2,10 @@
 -- After Bryant, "Boolean Analysis of MOS Circuits", 1987.
 use Rattle.std.specs.Prelude.{◌≡◌, ◌≢◌, ℕ, ◌+◌, ◌≤◌, Bool, true, List, Some}
 use Rattle.ternary.specs.declared.tern.Tern.{Tern}
-use Rattle.path_meaning.specs.declared.switching.Switch.{Switch}
-use Rattle.path_meaning.specs.Switching.{is_closed, is_live, state_at, switch_state_at}
-use Rattle.path_meaning.specs.Graphs.{GraphData, level_of, place_at}
-use Rattle.path_meaning.specs.Path.{Joins}
+use Rattle.switch_paths.specs.declared.switching.Switch.{Switch}
+use Rattle.switch_paths.specs.Switching.{is_closed, is_live, state_at, switch_state_at}
+use Rattle.switch_paths.specs.Graphs.{GraphData, level_of, place_at}
+use Rattle.switch_paths.specs.Path.{Joins}
 
 -- D(s, n): the node has a level of at least s, or a closed switch of level at least s joins it to such a node
 pub data Reached (g : GraphData) (state : List Tern) (s : ℕ) : ℕ → Type 0 where

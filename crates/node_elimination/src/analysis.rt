@@ -1,7 +1,7 @@
 //! The formulas of the members of a text.
 
 ghost use Rattle.std.specs.Prelude.{◌≡◌, ℕ, ◌+◌, ◌*◌, ◌≤◌, All, length, IfOk};
-ghost use Rattle.path_meaning.specs.Graphs.{nodes};
+ghost use Rattle.switch_paths.specs.Graphs.{nodes};
 ghost use Rattle.group_text.specs.Texts.{IsText};
 ghost use Rattle.dual_rail.specs.Conduct.{AreInside};
 ghost use Rattle.bool_pool.specs.Words.{Extends, ReachAtMost, HasVariablesBelow};
@@ -13,9 +13,9 @@ use crate::inputs::make_inputs;
 use bool_pool::{Id, Pool, Rails};
 use dual_rail::TOO_MANY_NODES;
 use group_text::GroupText;
-use path_meaning::{Graph, graphs_are_wired};
 use std::alloc::{AllocError, Global};
 use std::sync::ledger::Ledger;
+use switch_paths::{Graph, graphs_are_wired};
 use ternary::{NoMemory, Steps, Tern};
 
 /// The two formulas of each member of a text: "may be 1" and "may be 0" in its steady state.

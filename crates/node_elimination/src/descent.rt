@@ -1,8 +1,8 @@
 //! The levels of a graph, from the strongest one down.
 
 ghost use Rattle.std.specs.Prelude.{◌≡◌, ◌≢◌, ℕ, ◌+◌, ◌-◌, ◌*◌, ◌<◌, ◌≤◌, false, ◌++◌, length, Some, IfOk, OnOk};
-ghost use Rattle.path_meaning.specs.Words.{level_of, place_at};
-ghost use Rattle.path_meaning.specs.declared.switching.Switch.{Switch};
+ghost use Rattle.switch_paths.specs.Words.{level_of, place_at};
+ghost use Rattle.switch_paths.specs.declared.switching.Switch.{Switch};
 ghost use Rattle.bool_pool.specs.Gate.{Extends};
 ghost use Rattle.strength_order.specs.Levels.{IsLevel};
 ghost use Rattle.node_elimination.specs.Words.{AreFormulas, Grows, IsUnused, AllLeft, system_cost, HasMembers, input_formulas, HaveInputs, driven_formulas, level_formulas, HaveDriven, HaveLevels, ReachAt, DriveAt, DriveDown, StepDown, AreNegations, drives_cost, level_cost};
@@ -12,10 +12,10 @@ use crate::inputs::{Inputs, add_to};
 use crate::level::{Links, drive, reach};
 use crate::system::{System, TOO_MANY_UNKNOWNS};
 use bool_pool::{Id, Pool};
-use path_meaning::{Graph, Switch, graphs_are_wired};
 use std::alloc::Global;
 use std::sync::ledger::Ledger;
 use strength_order::INPUT_LEVEL;
+use switch_paths::{Graph, Switch, graphs_are_wired};
 use ternary::{NoMemory, Steps};
 
 /// What drives each member at one level: an unblocked path of at least this strength leads to it from a

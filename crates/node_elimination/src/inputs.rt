@@ -2,16 +2,16 @@
 
 ghost use Rattle.std.specs.Prelude.{◌≡◌, ℕ, ◌+◌, ◌-◌, ◌*◌, ◌<◌, ◌≤◌, Bool, true, false, List, [], ◌∷◌, ◌++◌, length, Option, is_some, count_by, if◌then◌else◌, IfOk, OnOk};
 ghost use Rattle.ternary.specs.Tern.{may_one, may_zero};
-ghost use Rattle.path_meaning.specs.Graphs.{nodes, place_at};
+ghost use Rattle.switch_paths.specs.Graphs.{nodes, place_at};
 ghost use Rattle.bool_pool.specs.Gate.{Extends};
 ghost use Rattle.node_elimination.specs.Words.{AreFormulas, AreGrown, IsConstant, IsAssignment, IsRail, AreRails, IsPass, ArePasses, input_formulas, HaveInputs, ShowsState};
 ghost use Rattle.group_analysis.specs.Meaning.{switch_count};
 
 use bool_pool::{Id, Pool, Rails};
 use dual_rail::{TOO_MANY_NODES, closed, const_rails, may_conduct, var_rails};
-use path_meaning::{Graph, graphs_are_wired};
 use std::alloc::{AllocError, Global};
 use std::sync::ledger::Ledger;
+use switch_paths::{Graph, graphs_are_wired};
 use ternary::{NoMemory, Steps, Tern};
 
 /// The formulas that the levels start from.

@@ -3,7 +3,7 @@
 //! Each function here does nothing: its contract is the law, and its proof proves it.
 
 ghost use Rattle.std.specs.Prelude.{◌<◌, ◌≤◌, ◌^◌, length};
-ghost use Rattle.path_meaning.specs.Graphs.{nodes};
+ghost use Rattle.switch_paths.specs.Graphs.{nodes};
 ghost use Rattle.dual_rail.specs.declared.rails.TheConstants.{TOO_MANY_NODES};
 ghost use Rattle.straight_code.specs.Code.{CodeData};
 ghost use Rattle.group_text.specs.Texts.{GroupTextData, IsSmall};

@@ -1,7 +1,7 @@
 //! The system of one level, and its solution.
 
 ghost use Rattle.std.specs.Prelude.{◌≡◌, ℕ, ◌+◌, ◌-◌, ◌*◌, ◌<◌, ◌≤◌, Bool, true, false, nat_le, ◌&&◌, ◌||◌, List, [], ◌∷◌, ◌++◌, length, IfOk, OnOk, is_some, if◌then◌else◌};
-ghost use Rattle.path_meaning.specs.Graphs.{nodes, level_of, place_at};
+ghost use Rattle.switch_paths.specs.Graphs.{nodes, level_of, place_at};
 ghost use Rattle.bool_pool.specs.Words.{Extends, value_at, IsFormed};
 ghost use Rattle.node_elimination.specs.Words.{AreFormulas, Grows, IsSquare, IsWhole, formulas_of, right_at, right, Moves, PutsRight, PutsRights, IsConstant, reached_base, value_of, AddsLink, AddsLinks, AllLeft, IsFresh, IsPlace, link_formulas, AreLinks, root_base, SolvesLinks, system_cost};
 ghost use Rattle.group_analysis.specs.Meaning.{switch_count};
@@ -9,9 +9,9 @@ ghost use Rattle.group_analysis.specs.Meaning.{switch_count};
 use crate::solve::{or_and, solve};
 use crate::system::System;
 use bool_pool::{Id, Pool};
-use path_meaning::Graph;
 use std::alloc::Global;
 use std::sync::ledger::Ledger;
+use switch_paths::Graph;
 use ternary::{NoMemory, Steps};
 
 /// What the links of a level are made of.

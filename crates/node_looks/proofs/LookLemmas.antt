@@ -8,12 +8,12 @@ use Rattle.std.proofs.lemmas.List.FromFn.{get_or-enumerate_from, length-enumerat
 use Rattle.std.proofs.lemmas.List.Elements.{filter_map-append, All-nil, All-cons, All-head, All-tail, All-append}
 use Rattle.std.proofs.lemmas.List.Folds.{list_any-append}
 use Rattle.ternary.specs.declared.tern.Tern.{Tern}
-use Rattle.path_meaning.specs.Graphs.{nodes, place_at, Fits, FitsPlace}
-use Rattle.path_meaning.specs.declared.switching.Switch.{Switch}
+use Rattle.switch_paths.specs.Graphs.{nodes, place_at, Fits, FitsPlace}
+use Rattle.switch_paths.specs.declared.switching.Switch.{Switch}
 use Rattle.netlist.specs.Circuits.{CircuitData, IsCircuit, called}
 use Rattle.netlist.specs.Names.{name_at}
-use Rattle.wave_print.specs.declared.lines.TheConstants.{COLUMN_ROOM}
-use Rattle.wave_print.specs.declared.looks.TheConstants.{LOOK_LINE_ROOM}
+use Rattle.printed_lines.specs.declared.lines.TheConstants.{COLUMN_ROOM}
+use Rattle.printed_lines.specs.declared.looks.TheConstants.{LOOK_LINE_ROOM}
 use Rattle.told_lines.specs.Lines.{Line, AreInRoom, is_unmet, room_of}
 use Rattle.told_lines.specs.Hearing.{of_column}
 use Rattle.told_lines.proofs.HearingLemmas.{of_column-append}

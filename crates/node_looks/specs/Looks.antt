@@ -4,15 +4,15 @@ use Rattle.std.specs.List.{enumerate_from}
 use Rattle.strength_order.specs.declared.TheConstants.{INPUT_LEVEL}
 use Rattle.strength_order.specs.Levels.{level_of_strength}
 use Rattle.ternary.specs.declared.tern.Tern.{Tern}
-use Rattle.path_meaning.specs.Graphs.{level_of}
-use Rattle.path_meaning.specs.Switching.{state_at, switch_state_at}
-use Rattle.path_meaning.specs.declared.TheConstants.{RAILS}
-use Rattle.path_meaning.specs.declared.switching.Switch.{Switch}
+use Rattle.switch_paths.specs.Graphs.{level_of}
+use Rattle.switch_paths.specs.Switching.{state_at, switch_state_at}
+use Rattle.switch_paths.specs.declared.TheConstants.{RAILS}
+use Rattle.switch_paths.specs.declared.switching.Switch.{Switch}
 use Rattle.netlist.specs.Circuits.{CircuitData, called}
 use Rattle.netlist.specs.Edits.{node_named}
-use Rattle.wave_print.specs.declared.looks.NodeSort.{NodeSort}
-use Rattle.wave_print.specs.declared.looks.NodeSort.TheVariants.{Rail, Input, Size}
-use Rattle.wave_print.specs.declared.looks.SwitchTold.{SwitchTold}
+use Rattle.printed_lines.specs.declared.looks.NodeSort.{NodeSort}
+use Rattle.printed_lines.specs.declared.looks.NodeSort.TheVariants.{Rail, Input, Size}
+use Rattle.printed_lines.specs.declared.looks.SwitchTold.{SwitchTold}
 use Rattle.told_lines.specs.Lines.{Line, Looked, AtEnd, AtGate}
 use Rattle.node_looks.specs.declared.lines.Terminal.{Terminal}
 use Rattle.node_looks.specs.declared.lines.Terminal.TheVariants.{End, Gate}

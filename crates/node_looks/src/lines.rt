@@ -1,16 +1,16 @@
 //! The line of a node, and those of the transistors at it.
 
 ghost use Rattle.std.specs.Prelude.{◌≡◌, ◌+◌, ◌<◌, ◌≤◌, ◌^◌, length, option_map, IfSome};
-ghost use Rattle.path_meaning.specs.Words.{nodes, place_at, Fits};
+ghost use Rattle.switch_paths.specs.Words.{nodes, place_at, Fits};
 ghost use Rattle.told_lines.specs.Lines.{IsShort, line_seen};
 ghost use Rattle.node_looks.specs.Looks as spec;
 
 use netlist::{Circuit, RAILS};
-use path_meaning::{Switch, switch_state};
+use printed_lines::{NodeSort, SwitchTold};
 use strength_order::INPUT_LEVEL;
+use switch_paths::{Switch, switch_state};
 use ternary::Tern;
 use told_lines::Line;
-use wave_print::{NodeSort, SwitchTold};
 
 /// The terminal of a transistor that is at a node.
 #[derive(Clone, Copy)]

@@ -2,14 +2,14 @@
 
 ghost use Rattle.std.specs.Prelude.{ℕ, ◌<◌, ◌≤◌, List, length, IfOk};
 ghost use Rattle.ternary.specs.declared.tern.Tern.{Tern};
-ghost use Rattle.path_meaning.specs.Words.{nodes};
+ghost use Rattle.switch_paths.specs.Words.{nodes};
 ghost use Rattle.netlist.specs.Words.{IsCircuit, called};
 ghost use Rattle.told_lines.specs.Lines.{AreInRoom};
 ghost use Rattle.node_looks.specs.Looks.{node_lines};
 
 use netlist::Circuit;
+use printed_lines::{COLUMN_ROOM, LOOK_LINE_ROOM};
 use ternary::NoMemory;
-use wave_print::{COLUMN_ROOM, LOOK_LINE_ROOM};
 
 // A length that no name comes near.
 const FAR: usize = 0x4000_0000_0000_0000;

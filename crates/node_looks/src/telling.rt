@@ -2,15 +2,15 @@
 
 ghost use Rattle.std.specs.Prelude.{◌≡◌, ◌<◌, ◌≤◌, ◌++◌, [], ◌∷◌, length, option_map, IfSome};
 ghost use Rattle.std.specs.List.{cons_option};
-ghost use Rattle.port_edge.specs.Ports.{faults_after, refusals_after};
-ghost use Rattle.path_meaning.specs.Words.{nodes};
+ghost use Rattle.ports.specs.Ports.{faults_after, refusals_after};
+ghost use Rattle.switch_paths.specs.Words.{nodes};
 ghost use Rattle.told_lines.specs.Lines.{AreInRoom, IsShort, line_seen, room_of};
 ghost use Rattle.told_lines.specs.Hearing.{Hears, of_column};
 ghost use Rattle.node_looks.specs.Looks as spec;
 
 use crate::lines::{Terminal, line_at, node_line};
 use netlist::Circuit;
-use port_edge::PortFault;
+use ports::PortFault;
 use ternary::Tern;
 use told_lines::{Line, Lines};
 

@@ -1,8 +1,8 @@
 -- What a word stands for: a list of nodes, or why it has none.
 use Rattle.std.specs.Prelude.{◌≡◌, ℕ, zero, suc, ◌<◌, Bool, false, ◌+◌, ◌-◌, ◌==◌, ◌&&◌, List, [], ◌∷◌, ◌++◌, length, nat_le, bytes_eq, Option, Some, None, Result, Ok, Err, if◌then◌else◌}
 use Rattle.std.specs.List.{filter, flat_map, list_any, range_with_len, slice_index_or}
-use Rattle.path_meaning.specs.Graphs.{nodes}
-use Rattle.path_meaning.specs.declared.TheConstants.{RAILS}
+use Rattle.switch_paths.specs.Graphs.{nodes}
+use Rattle.switch_paths.specs.declared.TheConstants.{RAILS}
 use Rattle.netlist.specs.Circuits.{CircuitData}
 use Rattle.netlist.specs.Names.{node_of}
 use Rattle.node_words.specs.declared.TheConstants.{MOST_ENTRIES}

@@ -1,7 +1,7 @@
 //! What a word stands for.
 ghost use Rattle.std.specs.Prelude.{◌≡◌, ◌⊎◌, ◌<◌, ◌&&◌, ◌++◌, nat_lt, IfErr, IfOk, IsTrue, OnOk};
 ghost use Rattle.node_words.specs.Patterns.{matches};
-ghost use Rattle.path_meaning.specs.Graphs.{nodes};
+ghost use Rattle.switch_paths.specs.Graphs.{nodes};
 ghost use Rattle.node_words.specs.Words as spec;
 ghost use Rattle.node_words.specs.Words.{Part};
 

@@ -4,7 +4,7 @@ use Rattle.std.specs.Prelude.{Contains, slice_index_or, slice_set}
 use Rattle.std.proofs.lemmas.Bool.{cases_eq, cases_lt}
 use Rattle.std.proofs.lemmas.List.{get_or-map, get_or-set_same, get_or-set_other, get_or_past, get_or_default, length-set, length-map, map-set, take_more}
 use Rattle.std.proofs.lemmas.List.Elements.{Contains-push, Contains-push_cases, Contains-append_left, Contains-get_or}
-use Rattle.machine_parts.specs.declared.part.HeldPart.{HeldPart}
+use Rattle.machine_parts.specs.declared.part.MachinePart.{MachinePart}
 use Rattle.machine_parts.specs.Parts.{Stands, ReadsAt}
 use Rattle.machine_parts.specs.Marking.{MarksAll}
 use Rattle.machine_parts.specs.Stepping.{Concerns}
@@ -102,7 +102,7 @@ module _ (k : ℕ) (nodes : List ℕ) (i node : ℕ) (old mid : List (Vec ℕ Gl
       })
 
 -- one part more is listed
-pub AreListed-more : (members : Bool) (parts : List HeldPart) (i : ℕ) (part : HeldPart) → Stands parts i part → (count : ℕ) (lists new : List (Vec ℕ Global)) →
+pub AreListed-more : (members : Bool) (parts : List MachinePart) (i : ℕ) (part : MachinePart) → Stands parts i part → (count : ℕ) (lists new : List (Vec ℕ Global)) →
     Lists i (nodes_of members part) lists new → AreListed members parts count i lists → AreListed members parts count (i + 1) new
 AreListed-more members parts i part stands count lists new lists_it so_far = record {
   counted = lists_it.count ∙ so_far.counted;
@@ -110,7 +110,7 @@ AreListed-more members parts i part stands count lists new lists_it so_far = rec
       elim (cases_eq k i) [
         | inl same ↦
             let one = same_part parts i part among.part stands (subst (λ n. Stands parts n among.part) same among.stands) in
-            let contained = subst (λ (p : HeldPart). Contains (nodes_of members p) node) (sym one) among.among in
+            let contained = subst (λ (p : MachinePart). Contains (nodes_of members p) node) (sym one) among.among in
             subst (Contains (listed_at new node)) (sym same) (lists_it.listed node contained)
         | inr differs ↦ lists_it.stays node k (so_far.listed node k (omega (arith, below, differs)) among)
       ];
@@ -124,7 +124,7 @@ AreListed-more members parts i part stands count lists new lists_it so_far = rec
 -- ---- the nodes of seated parts
 
 -- the nodes of the parts are there
-pub nodes_inside : (members : Bool) (count : ℕ) (parts : List HeldPart) → ((room : Rooms) × All (IsSeated count room) parts) →
+pub nodes_inside : (members : Bool) (count : ℕ) (parts : List MachinePart) → ((room : Rooms) × All (IsSeated count room) parts) →
     ((k node : ℕ) → ReadsAt parts k node → node < count) → All (λ part. All (λ node. node < count) (nodes_of members part)) parts
 nodes_inside true count parts (room, seated) reads k d inside i e within =
     let part = slice_index_or parts k d in
@@ -136,18 +136,18 @@ nodes_inside false count parts seated reads k d inside i e within =
     let stands : Stands parts k part = record { inside = inside; here = get_or_default parts k part d inside } in
     reads k _ (record { part = part; stands = stands; reads = Contains-get_or part.reads.items i e within })
 
-pub members_front : (count : ℕ) (parts : List HeldPart) → ((room : Rooms) × All (IsSeated count room) parts) → All (λ part. part.members ≤ length part.map.items) parts
+pub members_front : (count : ℕ) (parts : List MachinePart) → ((room : Rooms) × All (IsSeated count room) parts) → All (λ part. part.members ≤ length part.map.items) parts
 members_front count parts (room, seated) k d inside = (seated k d inside).members
 
 -- ---- marks by lists
 
 -- a part that is listed for a node is one of the parts
-pub listed_part : (members : Bool) (parts : List HeldPart) (count : ℕ) (lists : List (Vec ℕ Global)) → AreLists members parts count lists → (node : ℕ) (list : List ℕ) →
+pub listed_part : (members : Bool) (parts : List MachinePart) (count : ℕ) (lists : List (Vec ℕ Global)) → AreLists members parts count lists → (node : ℕ) (list : List ℕ) →
     list ≡ listed_at lists node → (k : ℕ) → Contains list k → k < length parts
 listed_part members parts count lists are node list is k there = (are.only node k (subst (λ xs. Contains xs k) is there)).stands.inside
 
 -- the parts that have a node as a member, or read it, are marked, and no others
-pub MarksAll-concerned : (parts : List HeldPart) (count : ℕ) (readers owners : List (Vec ℕ Global)) (node : ℕ) (old mid new : List Bool) →
+pub MarksAll-concerned : (parts : List MachinePart) (count : ℕ) (readers owners : List (Vec ℕ Global)) (node : ℕ) (old mid new : List Bool) →
     All (λ part. part.members ≤ length part.map.items) parts → AreLists true parts count owners → AreLists false parts count readers → (first second : List ℕ) →
     first ≡ listed_at owners node → second ≡ listed_at readers node → MarksAll (Contains first) old mid → MarksAll (Contains second) mid new →
     MarksAll (λ k. Concerns parts k node) old new
@@ -157,7 +157,7 @@ MarksAll-concerned parts count readers owners node old mid new front own read fi
   set = λ k concerned.
       elim concerned [
         | inl has ↦
-            let few = subst (λ (p : HeldPart). p.members ≤ length p.map.items) has.stands.here (front k has.part has.stands.inside) in
+            let few = subst (λ (p : MachinePart). p.members ≤ length p.map.items) has.stands.here (front k has.part has.stands.inside) in
             let among : IsAmong true parts k node =
             record { part = has.part; stands = has.stands; among = front_of_member parts k has.part has.stands few node has } in
             two.stays k (one.set k (subst (λ xs. Contains xs k) (sym first_is) (own.listed node k among)))
@@ -172,7 +172,7 @@ MarksAll-concerned parts count readers owners node old mid new front own read fi
               | inl was ↦ inl was
               | inr there ↦
                   let among = own.only node k (subst (λ xs. Contains xs k) first_is there) in
-                  let few = subst (λ (p : HeldPart). p.members ≤ length p.map.items) among.stands.here (front k among.part among.stands.inside) in
+                  let few = subst (λ (p : MachinePart). p.members ≤ length p.map.items) among.stands.here (front k among.part among.stands.inside) in
                   inr (inl (member_at_front parts k among.part among.stands few node among.among))
             ]
         | inr there ↦

@@ -2,14 +2,14 @@
 ghost use Rattle.std.specs.Prelude.{◌≡◌, ℕ, ◌<◌, ◌≤◌, length, All, Contains, IfOk, OnOk};
 ghost use Rattle.part_lists.specs.Listing.{nodes_of, listed_at, AreLists, Lists};
 
-use machine_parts::HeldPart;
+use machine_parts::MachinePart;
 use std::alloc::{AllocError, Global};
 
 /// For each of so many nodes the parts that read it, or those that have it as a member.
 pub fn lists_of(
     alloc: Global,
     members: bool,
-    parts: &[HeldPart],
+    parts: &[MachinePart],
     nodes: usize,
 ) -> Result<Vec<Vec<usize>>, AllocError>
     requires below { All (λ part. All (λ node. node < nodes) (nodes_of members part)) parts.now }
@@ -24,7 +24,7 @@ pub fn lists_of(
 }
 
 // The nodes that a part reads, or its members.
-fn nodes_of(members: bool, part: &HeldPart) -> &[usize]
+fn nodes_of(members: bool, part: &MachinePart) -> &[usize]
     requires { part.now.members ≤ length part.now.map.items }
     ensures { result.now ≡ nodes_of members part.now }
 {
@@ -59,7 +59,7 @@ fn list_part(k: usize, nodes: &[usize], lists: &mut [Vec<usize>]) -> Result<(), 
 }
 
 /// The most members of a part.
-pub fn most_members(parts: &[HeldPart]) -> usize
+pub fn most_members(parts: &[MachinePart]) -> usize
     ensures { All (λ part. part.members ≤ result) parts.now }
 {
     let mut most = 0;

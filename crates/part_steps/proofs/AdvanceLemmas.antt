@@ -6,14 +6,14 @@ use Rattle.std.proofs.lemmas.List.Elements.{Contains-append_left, Contains-appen
 use Rattle.smallvec.specs.SmallVec.{SmallVec}
 use Rattle.ternary.specs.declared.tern.Tern.{Tern}
 use Rattle.ternary.specs.declared.tern.Tern.TheVariants.{Zero, Unk}
-use Rattle.path_meaning.specs.Switching.{state_at}
-use Rattle.path_meaning.specs.Step.{IsResponse}
-use Rattle.path_meaning.proofs.UniqueSteps.{response_is_unique}
-use Rattle.oscillation_x.specs.Moved.{ListsChanges}
-use Rattle.oscillation_x.specs.Settling.{StaysOrBecomesX}
-use Rattle.machine_parts.specs.declared.part.HeldPart.{HeldPart}
+use Rattle.switch_paths.specs.Switching.{state_at}
+use Rattle.switch_paths.specs.Step.{IsResponse}
+use Rattle.switch_paths.proofs.UniqueSteps.{response_is_unique}
+use Rattle.settling.specs.Moved.{ListsChanges}
+use Rattle.settling.specs.Settling.{StaysOrBecomesX}
+use Rattle.machine_parts.specs.declared.part.MachinePart.{MachinePart}
 use Rattle.part_words.specs.declared.change.Change.{Change}
-use Rattle.part_steps.specs.declared.evaluation.Desk.{Desk}
+use Rattle.part_steps.specs.declared.evaluation.Workspace.{Workspace}
 use Rattle.machine_parts.specs.Parts.{Stands, IsStale}
 use Rattle.machine_parts.specs.Marking.{IsMarked, MarksAll}
 use Rattle.machine_parts.specs.Stepping.{IsGiven, StaysMarked, Remarks}
@@ -23,7 +23,7 @@ use Rattle.wide_groups.specs.Awake.{HoldsWide, NotesIn}
 use Rattle.wide_groups.proofs.WideCases.{awake_stale, awake_inside, stale_only_in, none_awake}
 use Rattle.part_words.specs.Noting.{after}
 use Rattle.machine_parts.specs.Evaluating.{Rooms, IsSeated, IsChange, Evaluated}
-use Rattle.part_steps.specs.Desks.{rooms, nodes_noted}
+use Rattle.part_steps.specs.Workspaces.{rooms, nodes_noted}
 use Rattle.machine_parts.specs.Running.{IsRunnable, AreAgreed, IsTaken, ReadsAny}
 use Rattle.machine_parts.specs.Readers.{readers_of}
 use Rattle.part_steps.proofs.TakingLemmas.{change_of, node_noted, noted_node}
@@ -31,10 +31,11 @@ use Rattle.machine_parts.proofs.CaseLemmas.{same_or_not, after-differs}
 use Rattle.machine_parts.proofs.PartLemmas.{same_part, given_once, HasMember-from_Gives}
 
 -- clearing the lists of a step keeps their room
-pub cleared_rooms : (desk : Desk) (changes : Vec Change Global) (done : Vec ℕ Global) → vec_capacity changes ≡ vec_capacity desk.changes →
-    vec_capacity done ≡ vec_capacity desk.done → rooms (record desk { changes = changes; done = done }) ≡ rooms desk
-cleared_rooms desk changes done changes_same done_same = λ i. record {
-  values = length desk.values.items;
+pub cleared_rooms : (workspace : Workspace) (changes : Vec Change Global) (done : Vec ℕ Global) →
+    vec_capacity changes ≡ vec_capacity workspace.changes →
+    vec_capacity done ≡ vec_capacity workspace.done → rooms (record workspace { changes = changes; done = done }) ≡ rooms workspace
+cleared_rooms workspace changes done changes_same done_same = λ i. record {
+  values = length workspace.values.items;
   changes = changes_same i;
   parts = done_same i;
 }
@@ -48,7 +49,7 @@ pub record IsAwakeChange (joining : Bool) (wide : Option WideData) (state : List
   pub differs : change.value ≢ state_at state change.node
 
 -- the changes are those that the marked parts make, and those of the nodes that are awake
-pub record AreChanges (joining : Bool) (parts : List HeldPart) (marks : List Bool) (wide : Option WideData) (state : List Tern) (changes : List Change) : Type 0 where
+pub record AreChanges (joining : Bool) (parts : List MachinePart) (marks : List Bool) (wide : Option WideData) (state : List Tern) (changes : List Change) : Type 0 where
   pub noted : (k : ℕ) (change : Change) → IsMarked marks k → IsChange joining parts state k change → Contains changes change
   pub awake : (node : ℕ) → IsAwakeIn wide state node → (value : Tern) × IsResponse (graph_in wide) state node value
       × ((after joining (state_at state node) value ≡ state_at state node)
@@ -79,7 +80,7 @@ noted_awake joining (Some wide) state changes notes change there =
     let is = notes.only change (subst (λ list. Contains list change) notes.list there) in
     record { awake = is.0; steady = is.1.0; response = is.1.1; value = is.1.2; differs = is.2 }
 
-module _ (joining : Bool) (parts : List HeldPart) (marks : List Bool) (waiting : List Bool) (old : List Tern) (readers : List (SmallVec ℕ)) (room : Rooms)
+module _ (joining : Bool) (parts : List MachinePart) (marks : List Bool) (waiting : List Bool) (old : List Tern) (readers : List (SmallVec ℕ)) (room : Rooms)
     (runs : IsRunnable parts marks waiting (length old) readers room) (wide : Option WideData) (noted_room : ℕ)
     (holds : HoldsWide parts old noted_room wide) where
   -- all marked parts together give a node one value
@@ -93,7 +94,7 @@ module _ (joining : Bool) (parts : List HeldPart) (marks : List Bool) (waiting :
       let gives = given.gives in
       let same = runs.apart given.k k node (HasMember-from_Gives parts old given.k node value gives) has in
       let part = same_part parts k stale.part gives.part stale.stands (subst (λ l. Stands parts l gives.part) same gives.stands) in
-      absurd (cc (ap (λ (p : HeldPart). p.code) part, stale.none, gives.has))
+      absurd (cc (ap (λ (p : MachinePart). p.code) part, stale.none, gives.has))
 
   -- the changes that were noted when nothing was left to be evaluated are those that the marked parts make, with those of the nodes that are awake
   pub AreChanges-from_Evaluated : (now : List Bool) (changes more : List Change) (done : List ℕ) →
@@ -105,7 +106,7 @@ module _ (joining : Bool) (parts : List HeldPart) (marks : List Bool) (waiting :
           | inl still ↦
               let stale = runs.waits k (rest k still) in
               let same = same_part parts k stale.part is.gives.part stale.stands is.gives.stands in
-              absurd (cc (ap (λ (p : HeldPart). p.code) same, stale.none, is.gives.has))
+              absurd (cc (ap (λ (p : MachinePart). p.code) same, stale.none, is.gives.has))
           | inr there ↦ Contains-append_left changes more change (evaluated.noted k change there is)
         ];
     awake = λ node awake.

@@ -9,9 +9,9 @@ use Rattle.straight_code.specs.Code.{CodeData}
 use Rattle.part_words.specs.declared.change.Change.{Change}
 use Rattle.part_words.specs.Noting.{map_at, IsNotedAt, NotesAll}
 use Rattle.part_steps.specs.declared.dense.Seat.{Seat}
-use Rattle.part_steps.specs.declared.evaluation.Desk.{Desk}
+use Rattle.part_steps.specs.declared.evaluation.Workspace.{Workspace}
 use Rattle.machine_parts.specs.Evaluating.{Rooms}
-use Rattle.part_steps.specs.Desks.{rooms}
+use Rattle.part_steps.specs.Workspaces.{rooms}
 use Rattle.part_steps.specs.Waiting.{Slot, slot_for, Waits, HasRoom, starts_in, code_in, with_seat, cleared_at}
 use Rattle.part_steps.specs.Together.{CanRun, RunsSome, TakesIn, outputs_at, instructions_at}
 use Rattle.part_steps.proofs.WaitingLemmas.{Waits-in, Waits-seat, Waits-before, Waits-cases, Waits-cleared, Waits-cleared_cases}
@@ -40,10 +40,11 @@ one_of_some zero cost some = absurd (omega (arith, some))
 one_of_some (suc count) cost some = omega arith
 
 -- one part more in the list of those that are done is no other room
-pub pushed_rooms : (desk : Desk) (done : Vec ℕ Global) → vec_capacity done ≡ vec_capacity desk.done → rooms (record desk { done = done }) ≡ rooms desk
-pushed_rooms desk done same = λ i. record {
-  values = length desk.values.items;
-  changes = vec_capacity desk.changes;
+pub pushed_rooms : (workspace : Workspace) (done : Vec ℕ Global) → vec_capacity done ≡ vec_capacity workspace.done →
+    rooms (record workspace { done = done }) ≡ rooms workspace
+pushed_rooms workspace done same = λ i. record {
+  values = length workspace.values.items;
+  changes = vec_capacity workspace.changes;
   parts = same i;
 }
 

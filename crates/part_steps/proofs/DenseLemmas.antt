@@ -9,7 +9,7 @@ use Rattle.std.specs.declared.rc.Rc.{Rc}
 use Rattle.straight_code.specs.Code.{CodeData}
 use Rattle.list_facts.proofs.PlaceLemmas.{slice_get-grown, slice_get-last, pushed_at}
 use Rattle.part_words.specs.Noting.{map_at}
-use Rattle.machine_parts.specs.declared.part.HeldPart.{HeldPart}
+use Rattle.machine_parts.specs.declared.part.MachinePart.{MachinePart}
 use Rattle.part_steps.specs.declared.dense.Seat.{Seat}
 use Rattle.part_steps.specs.declared.dense.DenseParts.{DenseParts}
 use Rattle.machine_parts.specs.Marking.{AreOnce}
@@ -18,12 +18,12 @@ use Rattle.part_steps.specs.Dense.{HasInputs, HaveCodes, IsCodeAt, IsMapAt, AreP
 use Rattle.machine_parts.proofs.NumberLists.{one_or_none}
 
 -- a seat tells the code and the map of the part with its number
-pub place_of_part : (parts : List HeldPart) (dense : DenseParts) (k : ℕ) (part : HeldPart) (seat : Seat) → AreDense parts dense →
+pub place_of_part : (parts : List MachinePart) (dense : DenseParts) (k : ℕ) (part : MachinePart) (seat : Seat) → AreDense parts dense →
     slice_get parts k ≡ Some part → slice_get dense.seats.items k ≡ Some (Some seat) → IsPlace part dense.codes.items dense.nodes.items seat
 place_of_part parts dense k part seat of part_is seat_is = (of.each k part (Some seat) part_is seat_is).some seat refl
 
 -- a part without a seat has no code
-pub no_place_of_part : (parts : List HeldPart) (dense : DenseParts) (k : ℕ) (part : HeldPart) → AreDense parts dense →
+pub no_place_of_part : (parts : List MachinePart) (dense : DenseParts) (k : ℕ) (part : MachinePart) → AreDense parts dense →
     slice_get parts k ≡ Some part → slice_get dense.seats.items k ≡ Some None → part.code ≡ None
 no_place_of_part parts dense k part of part_is seat_is = (of.each k part None part_is seat_is).none refl
 
@@ -176,7 +176,8 @@ places_none list codes places count none n place at =
     absurd (none_there count n place (subst (λ xs. slice_get xs n ≡ Some (Some place)) none at))
 
 -- the seat at which the part's code and its map stand
-pub IsPlace-made : (part : HeldPart) (own : Rc CodeData Global) (codes : List (Rc CodeData Global)) (nodes : List ℕ) (seat : Seat) → HasInputs part →
+pub IsPlace-made : (part : MachinePart) (own : Rc CodeData Global) (codes : List (Rc CodeData Global)) (nodes : List ℕ)
+    (seat : Seat) → HasInputs part →
     part.code ≡ Some own → IsCodeAt codes seat.code own.value → IsMapAt nodes seat.at part.map.items → IsPlace part codes nodes seat
 IsPlace-made part own codes nodes seat fits has is stands =
     let inputs : length part.map.items ≡ is.code.value.inputs = fits own has ∙ ap (λ (code : CodeData). code.inputs) (sym is.same) in
@@ -190,21 +191,21 @@ IsPlace-made part own codes nodes seat fits has is stands =
       map = subst (λ n. map_at nodes n seat.at ≡ part.map.items) inputs stands.map;
     }
 
-pub IsSeatOf-some : (part : HeldPart) (codes : List (Rc CodeData Global)) (nodes : List ℕ) (seat : Seat) → IsPlace part codes nodes seat →
+pub IsSeatOf-some : (part : MachinePart) (codes : List (Rc CodeData Global)) (nodes : List ℕ) (seat : Seat) → IsPlace part codes nodes seat →
     IsSeatOf part codes nodes (Some seat)
 IsSeatOf-some part codes nodes seat is = record {
   none = λ none. absurd (none-some seat (sym none));
   some = λ one same. subst (IsPlace part codes nodes) (same_Some seat one same) is;
 }
 
-pub IsSeatOf-none : (part : HeldPart) (codes : List (Rc CodeData Global)) (nodes : List ℕ) → part.code ≡ None → IsSeatOf part codes nodes None
+pub IsSeatOf-none : (part : MachinePart) (codes : List (Rc CodeData Global)) (nodes : List ℕ) → part.code ≡ None → IsSeatOf part codes nodes None
 IsSeatOf-none part codes nodes none = record {
   none = λ same. none;
   some = λ one same. absurd (none-some one same);
 }
 
 -- the code stands at its place, and then the map came
-pub seat_made : (part : HeldPart) (own : Rc CodeData Global) (old new : DenseParts) (place at : ℕ) → HasInputs part → part.code ≡ Some own →
+pub seat_made : (part : MachinePart) (own : Rc CodeData Global) (old new : DenseParts) (place at : ℕ) → HasInputs part → part.code ≡ Some own →
     IsCodeAt old.codes.items place own.value → Grows old new → IsMapAt new.nodes.items at part.map.items →
     IsSeatOf part new.codes.items new.nodes.items (Some (record { code = place; at = at }))
 seat_made part own old new place at fits has is grows stands =
@@ -213,7 +214,7 @@ seat_made part own old new place at fits has is grows stands =
     (IsCodeAt-more old.codes.items new.codes.items place own.value grows.codes is) stands)
 
 -- a seat says the same where more codes and maps came
-IsSeatOf-more : (part : HeldPart) (front codes : List (Rc CodeData Global)) (first nodes : List ℕ) (seat : Option Seat) → BeginsWith front codes →
+IsSeatOf-more : (part : MachinePart) (front codes : List (Rc CodeData Global)) (first nodes : List ℕ) (seat : Option Seat) → BeginsWith front codes →
     BeginsWith first nodes → IsSeatOf part front first seat → IsSeatOf part codes nodes seat
 IsSeatOf-more part front codes first nodes seat codes_more nodes_more is = record {
   none = is.none;
@@ -230,7 +231,7 @@ IsSeatOf-more part front codes first nodes seat codes_more nodes_more is = recor
       };
 }
 
-pub AreSeatsOf-more : (parts : List HeldPart) (old new : DenseParts) (seats : List (Option Seat)) → Grows old new →
+pub AreSeatsOf-more : (parts : List MachinePart) (old new : DenseParts) (seats : List (Option Seat)) → Grows old new →
     AreSeatsOf parts old.codes.items old.nodes.items seats → AreSeatsOf parts new.codes.items new.nodes.items seats
 AreSeatsOf-more parts old new seats grows of = record {
   counted = of.counted;
@@ -239,7 +240,7 @@ AreSeatsOf-more parts old new seats grows of = record {
 }
 
 -- all seats say the same after more codes and maps came
-pub dense_more : (parts : List HeldPart) (old new : DenseParts) → Grows old new → AreDense parts old → AreDense parts new
+pub dense_more : (parts : List MachinePart) (old new : DenseParts) → Grows old new → AreDense parts old → AreDense parts new
 dense_more parts old new grows of =
     subst (λ (list : Vec (Option Seat) Global). AreSeatsOf parts new.codes.items new.nodes.items list.items) (sym grows.seats)
     (AreSeatsOf-more parts old new old.seats.items grows of)
@@ -247,7 +248,7 @@ dense_more parts old new grows of =
 -- and after those that came behind the others have gone again
 pub dense_again : (old mid new : DenseParts) (codes_count nodes_count : ℕ) → Grows old mid → codes_count ≡ length old.codes.items →
     nodes_count ≡ length old.nodes.items → new.codes.items ≡ take codes_count mid.codes.items → new.nodes.items ≡ take nodes_count mid.nodes.items →
-    new.seats ≡ mid.seats → (parts : List HeldPart) → AreDense parts old → AreDense parts new
+    new.seats ≡ mid.seats → (parts : List MachinePart) → AreDense parts old → AreDense parts new
 dense_again old mid new codes_count nodes_count grows codes_counted nodes_counted codes nodes seats parts of =
     subst (λ list. AreSeatsOf parts list new.nodes.items new.seats.items)
     (sym (codes ∙ front_of old.codes.items mid.codes.items codes_count grows.codes codes_counted))
@@ -260,7 +261,8 @@ pub no_seats : (codes : List (Rc CodeData Global)) (nodes : List ℕ) → AreSea
 no_seats codes nodes = record { counted = refl; each = λ k part seat part_is seat_is. absurd (none-some part part_is) }
 
 -- one seat more
-pub AreSeatsOf-push : (parts : List HeldPart) (part : HeldPart) (codes : List (Rc CodeData Global)) (nodes : List ℕ) (seats : List (Option Seat))
+pub AreSeatsOf-push : (parts : List MachinePart) (part : MachinePart) (codes : List (Rc CodeData Global)) (nodes : List ℕ)
+    (seats : List (Option Seat))
     (seat : Option Seat) → AreSeatsOf parts codes nodes seats → IsSeatOf part codes nodes seat →
     AreSeatsOf (parts ++ part ∷ []) codes nodes (seats ++ seat ∷ [])
 AreSeatsOf-push parts part codes nodes seats seat of is = record {
@@ -282,7 +284,7 @@ AreSeatsOf-push parts part codes nodes seats seat of is = record {
 }
 
 -- another part has the slot
-pub AreSeatsOf-set : (parts : List HeldPart) (k : ℕ) (part : HeldPart) (codes : List (Rc CodeData Global)) (nodes : List ℕ) (seats : List (Option Seat))
+pub AreSeatsOf-set : (parts : List MachinePart) (k : ℕ) (part : MachinePart) (codes : List (Rc CodeData Global)) (nodes : List ℕ) (seats : List (Option Seat))
     (seat : Option Seat) → AreSeatsOf parts codes nodes seats → IsSeatOf part codes nodes seat →
     AreSeatsOf (slice_set parts k part) codes nodes (slice_set seats k seat)
 AreSeatsOf-set parts k part codes nodes seats seat of is = record {
@@ -314,7 +316,7 @@ same_place slots i j k once first second =
     ]
 
 -- parts and their seats were put in the same slots
-pub AreSeatsOf-put : (slots : List ℕ) (codes : List (Rc CodeData Global)) (nodes : List ℕ) (fresh old new : List HeldPart)
+pub AreSeatsOf-put : (slots : List ℕ) (codes : List (Rc CodeData Global)) (nodes : List ℕ) (fresh old new : List MachinePart)
     (seats before after : List (Option Seat)) → AreOnce slots → AreSeatsOf fresh codes nodes seats → AreSeatsOf old codes nodes before →
     Puts slots fresh old new → Puts slots seats before after → AreSeatsOf new codes nodes after
 AreSeatsOf-put slots codes nodes fresh old new seats before after once fresh_of old_of puts seat_puts = record {
@@ -334,7 +336,7 @@ AreSeatsOf-put slots codes nodes fresh old new seats before after once fresh_of 
 
 -- seats were put in slots: whatever parts were put there, they are those of the parts
 pub seats_put : (slots : List ℕ) (before after : DenseParts) (seats : List (Option Seat)) → after.codes ≡ before.codes → after.nodes ≡ before.nodes →
-    Puts slots seats before.seats.items after.seats.items → (fresh old new : List HeldPart) → AreOnce slots →
+    Puts slots seats before.seats.items after.seats.items → (fresh old new : List MachinePart) → AreOnce slots →
     AreSeatsOf fresh before.codes.items before.nodes.items seats → Puts slots fresh old new → AreDense old before → AreDense new after
 seats_put slots before after seats codes nodes seat_puts fresh old new once fresh_of puts old_of =
     subst (λ (list : Vec (Rc CodeData Global) Global). AreSeatsOf new list.items after.nodes.items after.seats.items) (sym codes)
@@ -342,7 +344,7 @@ seats_put slots before after seats codes nodes seat_puts fresh old new once fres
     (AreSeatsOf-put slots before.codes.items before.nodes.items fresh old new seats before.seats.items after.seats.items once fresh_of old_of puts seat_puts))
 
 -- parts of texts that have codes by their numbers
-pub numbered_part : (numbers : List (Option ℕ)) (parts : List HeldPart) (codes : HaveCodes numbers parts) (k : ℕ) (part : HeldPart) (number : Option ℕ) →
+pub numbered_part : (numbers : List (Option ℕ)) (parts : List MachinePart) (codes : HaveCodes numbers parts) (k : ℕ) (part : MachinePart) (number : Option ℕ) →
     slice_get parts k ≡ Some part → k < length numbers → number ≡ slice_index_or numbers k None → IsPartNumbered codes.codes number part
 numbered_part numbers parts codes k part number part_is inside number_is code has n some =
     codes.each k n part code (slice_get-get_or numbers k None inside ∙ ap Some (sym number_is ∙ some)) part_is has

@@ -6,11 +6,11 @@ use Rattle.std.proofs.lemmas.List.{length-map}
 use Rattle.std.proofs.lemmas.List.Elements.{Contains-push, Contains-push_cases, Contains-append_left}
 use Rattle.std.proofs.lemmas.Option.{same_Some, slice_get_within, get_or_from_slice_get}
 use Rattle.ternary.specs.declared.tern.Tern.{Tern}
-use Rattle.path_meaning.specs.Switching.{state_at}
+use Rattle.switch_paths.specs.Switching.{state_at}
 use Rattle.straight_code.specs.Code.{CodeData, code_value, output_state, results}
 use Rattle.part_words.specs.declared.change.Change.{Change}
 use Rattle.part_words.specs.Noting.{after, states_at, IsNotedAt}
-use Rattle.machine_parts.specs.declared.part.HeldPart.{HeldPart}
+use Rattle.machine_parts.specs.declared.part.MachinePart.{MachinePart}
 use Rattle.part_steps.specs.declared.dense.Seat.{Seat}
 use Rattle.machine_parts.specs.Parts.{Stands, IsMemberAt}
 use Rattle.machine_parts.specs.Marking.{IsMarked, members_of, instructions_of}
@@ -30,22 +30,23 @@ item_there (x ∷ xs) zero inside = (x, refl)
 item_there (x ∷ xs) (suc k) inside = item_there xs k (omega (arith, inside))
 
 -- the part that stands at a number
-pub part_there : (parts : List HeldPart) (k : ℕ) (part : HeldPart) → slice_get parts k ≡ Some part → Stands parts k part
+pub part_there : (parts : List MachinePart) (k : ℕ) (part : MachinePart) → slice_get parts k ≡ Some part → Stands parts k part
 part_there parts k part there = record {
   inside = slice_get_within parts k part there;
   here = get_or_from_slice_get parts k part part there;
 }
 
 -- a part without code makes no change
-pub no_change_of : (joining : Bool) (parts : List HeldPart) (state : List Tern) (k : ℕ) (part : HeldPart) → Stands parts k part → part.code ≡ None →
+pub no_change_of : (joining : Bool) (parts : List MachinePart) (state : List Tern) (k : ℕ) (part : MachinePart) →
+    Stands parts k part → part.code ≡ None →
     (change : Change) → ¬ IsChange joining parts state k change
 no_change_of joining parts state k part stands none change is =
     let gives = is.gives in
     let same = same_part parts k gives.part part gives.stands stands in
-    absurd (cc (ap (λ (p : HeldPart). p.code) same, gives.has))
+    absurd (cc (ap (λ (p : MachinePart). p.code) same, gives.has))
 
-module _ (joining : Bool) (parts : List HeldPart) (state : List Tern) (room : Rooms) (codes : List (Rc CodeData Global)) (nodes : List ℕ)
-    (k : ℕ) (part : HeldPart) (seat : Seat) (stands : Stands parts k part) (of : IsPlace part codes nodes seat)
+module _ (joining : Bool) (parts : List MachinePart) (state : List Tern) (room : Rooms) (codes : List (Rc CodeData Global)) (nodes : List ℕ)
+    (k : ℕ) (part : MachinePart) (seat : Seat) (stands : Stands parts k part) (of : IsPlace part codes nodes seat)
     (seated : IsSeated (length state) room part) where
   -- a part can be run by its seat
   pub CanRun-seated : CanRun (length state) room codes nodes seat
@@ -92,12 +93,12 @@ module _ (joining : Bool) (parts : List HeldPart) (state : List Tern) (room : Ro
   noted_seated change is =
       let gives = is.gives in
       let same = same_part parts k gives.part part gives.stands stands in
-      let has : gives.code ≡ of.own = same_Some gives.code of.own (sym gives.has ∙ (ap (λ (p : HeldPart). p.code) same ∙ of.has)) in
+      let has : gives.code ≡ of.own = same_Some gives.code of.own (sym gives.has ∙ (ap (λ (p : MachinePart). p.code) same ∙ of.has)) in
       let member = subst (λ p. IsMemberAt p gives.place change.node) same gives.member in
       let values = code_value of.code.value (states_at state nodes of.code.value.inputs seat.at) in
       let given : is.given ≡ state_at values gives.place =
       gives.value_is
-      ∙ (ap (λ (p : HeldPart). state_at (code_value gives.code.value (map (state_at state) p.map.items)) gives.place) same
+      ∙ (ap (λ (p : MachinePart). state_at (code_value gives.code.value (map (state_at state) p.map.items)) gives.place) same
       ∙ (ap (λ (shared : Rc CodeData Global). state_at (code_value shared.value input) gives.place) has
       ∙ ap (λ (xs : List Tern). state_at xs gives.place) (sym values_are))) in
       record {
@@ -139,21 +140,21 @@ module _ (joining : Bool) (parts : List HeldPart) (state : List Tern) (room : Ro
       }
 
 -- what the seat of a part notes is what the part changes
-abbrev pub NotesItsChanges : Bool → List HeldPart → List Tern → List (Rc CodeData Global) → List ℕ → ℕ → Seat → Type 0
+abbrev pub NotesItsChanges : Bool → List MachinePart → List Tern → List (Rc CodeData Global) → List ℕ → ℕ → Seat → Type 0
 NotesItsChanges joining parts state codes nodes k seat =
     (change : Change) → IsChange joining parts state k change ↔ IsNotedBy joining codes nodes state seat change
 
-abbrev pub NoteTheirChanges : Bool → List HeldPart → List Tern → List (Rc CodeData Global) → List ℕ → List (Option Seat) → Type 0
+abbrev pub NoteTheirChanges : Bool → List MachinePart → List Tern → List (Rc CodeData Global) → List ℕ → List (Option Seat) → Type 0
 NoteTheirChanges joining parts state codes nodes seats =
     (k : ℕ) (seat : Seat) → slice_get seats k ≡ Some (Some seat) → NotesItsChanges joining parts state codes nodes k seat
 
 -- a part whose seat is there, and what the seat tells
-pub record IsFoundBy (parts : List HeldPart) (codes : List (Rc CodeData Global)) (nodes : List ℕ) (k : ℕ) (seat : Seat) : Type 0 where
-  pub part : HeldPart
+pub record IsFoundBy (parts : List MachinePart) (codes : List (Rc CodeData Global)) (nodes : List ℕ) (k : ℕ) (seat : Seat) : Type 0 where
+  pub part : MachinePart
   pub stands : Stands parts k part
   pub place : IsPlace part codes nodes seat
 
-pub found_by : (parts : List HeldPart) (codes : List (Rc CodeData Global)) (nodes : List ℕ) (seats : List (Option Seat)) (k : ℕ) (seat : Seat) →
+pub found_by : (parts : List MachinePart) (codes : List (Rc CodeData Global)) (nodes : List ℕ) (seats : List (Option Seat)) (k : ℕ) (seat : Seat) →
     AreSeatsOf parts codes nodes seats → slice_get seats k ≡ Some (Some seat) → IsFoundBy parts codes nodes k seat
 found_by parts codes nodes seats k seat are there =
     let inside : k < length parts = omega (arith, slice_get_within seats k (Some seat) there, are.counted) in
@@ -165,15 +166,16 @@ found_by parts codes nodes seats k seat are there =
     }
 
 -- a part without a seat has no code
-pub codeless_by : (parts : List HeldPart) (codes : List (Rc CodeData Global)) (nodes : List ℕ) (seats : List (Option Seat)) (k : ℕ) →
-    AreSeatsOf parts codes nodes seats → slice_get seats k ≡ Some None → (part : HeldPart) × Stands parts k part × (part.code ≡ None)
+pub codeless_by : (parts : List MachinePart) (codes : List (Rc CodeData Global)) (nodes : List ℕ) (seats : List (Option Seat)) (k : ℕ) →
+    AreSeatsOf parts codes nodes seats → slice_get seats k ≡ Some None → (part : MachinePart) × Stands parts k part × (part.code ≡ None)
 codeless_by parts codes nodes seats k are there =
     let inside : k < length parts = omega (arith, slice_get_within seats k None there, are.counted) in
     let (part, at) = item_there parts k inside in
     (part, part_there parts k part at, (are.each k part None at there).none refl)
 
 -- what the seats of parts note is what the parts change
-pub NoteTheirChanges-from_AreSeatsOf : (joining : Bool) (parts : List HeldPart) (state : List Tern) (room : Rooms) (codes : List (Rc CodeData Global))
+pub NoteTheirChanges-from_AreSeatsOf : (joining : Bool) (parts : List MachinePart) (state : List Tern) (room : Rooms)
+    (codes : List (Rc CodeData Global))
     (nodes : List ℕ) (seats : List (Option Seat)) → AreSeatsOf parts codes nodes seats → All (IsSeated (length state) room) parts →
     NoteTheirChanges joining parts state codes nodes seats
 NoteTheirChanges-from_AreSeatsOf joining parts state room codes nodes seats are seated k seat there change =
@@ -183,7 +185,7 @@ NoteTheirChanges-from_AreSeatsOf joining parts state room codes nodes seats are 
       seated_noted joining parts state room codes nodes k found.part seat found.stands found.place seat_of change,
     )
 
-module _ (joining : Bool) (parts : List HeldPart) (state : List Tern) (waiting before : List Bool) (seats : List (Option Seat)) where
+module _ (joining : Bool) (parts : List MachinePart) (state : List Tern) (waiting before : List Bool) (seats : List (Option Seat)) where
   -- nothing was evaluated yet
   pub EvaluatedBut-none : (slots : List Slot) → IsEmptyFrom 0 slots →
       EvaluatedBut joining parts state waiting before before seats slots [] []

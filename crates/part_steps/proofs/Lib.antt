@@ -1,5 +1,5 @@
 pub mod WaitingLemmas
-pub mod BatchLemmas
+pub mod BundleLemmas
 pub mod CodesLemmas
 pub mod EvaluationLemmas
 pub mod TakingLemmas

@@ -13,7 +13,7 @@ use Rattle.std.proofs.lemmas.Map.Views.{Contains-from_any}
 use Rattle.std.proofs.lemmas.Option.{slice_get_within, slice_get-get_or, get_or_from_slice_get}
 use Rattle.smallvec.specs.SmallVec.{SmallVec}
 use Rattle.list_facts.specs.Taking.{TakesOut}
-use Rattle.machine_parts.specs.declared.part.HeldPart.{HeldPart}
+use Rattle.machine_parts.specs.declared.part.MachinePart.{MachinePart}
 use Rattle.machine_parts.specs.Marking.{AreOnce}
 use Rattle.machine_parts.specs.Parts.{Stands}
 use Rattle.machine_parts.specs.Readers.{readers_of, AreEachOnce, IsLastIf, Adds, Lists, ListsLast, ListsSome, Unlists, ReadsAs, HaveSameReaders, AreListedTo, AreOffTo, AreListed}
@@ -215,7 +215,7 @@ ListsSome-all k nodes i old new past so_far =
     let lists : Lists k nodes old new = subst (λ xs. Lists k xs old new) all so_far.lists in
     (record { count = lists.count; stays = lists.stays; only = lists.only; each = so_far.each }, lists.listed)
 
-module _ (slots : List ℕ) (fresh : List HeldPart) (i : ℕ) (k : ℕ) (part : HeldPart) (slot : slice_get slots i ≡ Some k)
+module _ (slots : List ℕ) (fresh : List MachinePart) (i : ℕ) (k : ℕ) (part : MachinePart) (slot : slice_get slots i ≡ Some k)
     (there : slice_get fresh i ≡ Some part) (old mid new : List (SmallVec ℕ)) where
   same_at : (how_k node : ℕ) (how : ReadsAs slots fresh how_k node) → how.i ≡ i → (how_k ≡ k) × Contains part.reads.items node
   same_at how_k node how is =
@@ -223,7 +223,7 @@ module _ (slots : List ℕ) (fresh : List HeldPart) (i : ℕ) (k : ℕ) (part : 
       let parts_are : Some how.part ≡ Some part = sym how.there ∙ (ap (slice_get fresh) is ∙ there) in
       let one_k : how_k ≡ k = cc in
       let one_part : how.part ≡ part = cc in
-      (one_k, subst (λ (p : HeldPart). Contains p.reads.items node) one_part how.reads)
+      (one_k, subst (λ (p : MachinePart). Contains p.reads.items node) one_part how.reads)
 
   slot_there : Contains slots k
   slot_there = (i, slice_get_within slots i k slot, get_or_from_slice_get slots i k k slot)
@@ -303,7 +303,7 @@ module _ (slots : List ℕ) (fresh : List HeldPart) (i : ℕ) (k : ℕ) (part : 
   }
 
 -- before the first part none is listed, and none taken off
-pub AreListedTo-none : (slots : List ℕ) (fresh : List HeldPart) (lists : List (SmallVec ℕ)) → AreEachOnce lists → AreListedTo slots fresh 0 lists lists
+pub AreListedTo-none : (slots : List ℕ) (fresh : List MachinePart) (lists : List (SmallVec ℕ)) → AreEachOnce lists → AreListedTo slots fresh 0 lists lists
 AreListedTo-none slots fresh lists each = record {
   count = refl;
   stays = λ node l there. there;
@@ -312,7 +312,7 @@ AreListedTo-none slots fresh lists each = record {
   each = each;
 }
 
-pub AreOffTo-none : (slots : List ℕ) (fresh : List HeldPart) (lists : List (SmallVec ℕ)) → AreEachOnce lists → AreOffTo slots fresh 0 lists lists
+pub AreOffTo-none : (slots : List ℕ) (fresh : List MachinePart) (lists : List (SmallVec ℕ)) → AreEachOnce lists → AreOffTo slots fresh 0 lists lists
 AreOffTo-none slots fresh lists each = record {
   count = refl;
   gone = λ node k how below. absurd (omega (arith, below));
@@ -322,7 +322,7 @@ AreOffTo-none slots fresh lists each = record {
 }
 
 -- one part more of a machine that is made is listed
-pub AreListed-more : (parts : List HeldPart) (i : ℕ) (part : HeldPart) → Stands parts i part → (count : ℕ) (lists new : List (SmallVec ℕ)) →
+pub AreListed-more : (parts : List MachinePart) (i : ℕ) (part : MachinePart) → Stands parts i part → (count : ℕ) (lists new : List (SmallVec ℕ)) →
     ListsSome i part.reads.items lists new → ((node : ℕ) → Contains part.reads.items node → Contains (readers_of new node) i) →
     AreListed parts count i lists → AreListed parts count (i + 1) new
 AreListed-more parts i part stands count lists new some listed so_far = record {
@@ -331,7 +331,7 @@ AreListed-more parts i part stands count lists new some listed so_far = record {
       elim (cases_eq k i) [
         | inl same ↦
             let one = same_part parts i part reads.part stands (subst (λ n. Stands parts n reads.part) same reads.stands) in
-            let contained = subst (λ (p : HeldPart). Contains p.reads.items node) (sym one) reads.reads in
+            let contained = subst (λ (p : MachinePart). Contains p.reads.items node) (sym one) reads.reads in
             subst (Contains (readers_of new node)) (sym same) (listed node contained)
         | inr differs ↦ some.stays node k (so_far.readers node k (omega (arith, below, differs)) reads)
       ];
@@ -349,7 +349,8 @@ AreListed-more parts i part stands count lists new some listed so_far = record {
 }
 
 -- before the first part none is
-pub AreListed-none : (parts : List HeldPart) (lists : List (SmallVec ℕ)) → ((node k : ℕ) → ¬ Contains (readers_of lists node) k) → AreEachOnce lists →
+pub AreListed-none : (parts : List MachinePart) (lists : List (SmallVec ℕ)) →
+    ((node k : ℕ) → ¬ Contains (readers_of lists node) k) → AreEachOnce lists →
     AreListed parts (length lists) 0 lists
 AreListed-none parts lists none each = record {
   counted = refl;
@@ -377,10 +378,10 @@ pub slot_read : (slots : List ℕ) (i count : ℕ) → i < count → count ≡ l
 slot_read slots i count inside counted = slice_get-get_or slots i 0 (omega (arith, inside, counted))
 
 -- what the part at a place reads is below the number of nodes
-pub reads_below : (parts : List HeldPart) (count most i : ℕ) (part : HeldPart) (nodes : List ℕ) →
-    All (λ (part : HeldPart). All (λ node. node < count) part.reads.items) parts → i < length parts → part ≡ get_or parts i part →
+pub reads_below : (parts : List MachinePart) (count most i : ℕ) (part : MachinePart) (nodes : List ℕ) →
+    All (λ (part : MachinePart). All (λ node. node < count) part.reads.items) parts → i < length parts → part ≡ get_or parts i part →
     nodes ≡ part.reads.items → count ≤ most → All (λ node. node < most) nodes
 reads_below parts count most i part nodes below inside is read fits = λ k d within.
     let here : All (λ node. node < count) part.reads.items =
-    subst (λ (one : HeldPart). All (λ node. node < count) one.reads.items) (sym is) (below i part inside) in
+    subst (λ (one : MachinePart). All (λ node. node < count) one.reads.items) (sym is) (below i part inside) in
     omega (arith, subst (All (λ node. node < count)) (sym read) here k d within, fits)

@@ -3,13 +3,14 @@ use Rattle.std.proofs.Common.{ℕ, ◌-◌, ◌*◌, ◌^◌, ◌≤◌, inl, in
 use Rattle.std.specs.List.{sum_by}
 use Rattle.std.proofs.lemmas.List.Elements.{All-head, All-tail, All-weaker}
 use Rattle.std.proofs.lemmas.List.Sums.{sum_by-cons}
-use Rattle.machine_parts.specs.declared.part.HeldPart.{HeldPart}
+use Rattle.machine_parts.specs.declared.part.MachinePart.{MachinePart}
 use Rattle.machine_parts.specs.Marking.{members_of}
 use Rattle.machine_parts.specs.Making.{IsCodeRoom, NeedTooMuch}
 use Rattle.part_steps.specs.Small.{IsSmallPart}
 
 -- where each part counts for 2,600 at most, all together do for so many times their number
-pub sum-small : (count : HeldPart → ℕ) (parts : List HeldPart) → All (λ part. count part ≤ 2600) parts → sum_by count parts ≤ 2600 * length parts
+pub sum-small : (count : MachinePart → ℕ) (parts : List MachinePart) → All (λ part. count part ≤ 2600) parts →
+    sum_by count parts ≤ 2600 * length parts
 sum-small count [] each = omega arith
 sum-small count (part ∷ parts) each =
     omega (
@@ -20,12 +21,12 @@ sum-small count (part ∷ parts) each =
     )
 
 -- code of a small text has room
-code_room : (part : HeldPart) → IsSmallPart part → IsCodeRoom (2 ^ 64 - 1) part
+code_room : (part : MachinePart) → IsSmallPart part → IsCodeRoom (2 ^ 64 - 1) part
 code_room part small code has =
     let (inputs, instructions) = small.code code has in
     omega (arith, inputs, instructions)
 
-pub no_need : (parts : List HeldPart) → length parts ≤ 2 ^ 32 → All IsSmallPart parts → ¬ NeedTooMuch parts
+pub no_need : (parts : List MachinePart) → length parts ≤ 2 ^ 32 → All IsSmallPart parts → ¬ NeedTooMuch parts
 no_need parts few small needs =
     elim needs [
       | inl over ↦

@@ -6,11 +6,11 @@ use Rattle.std.proofs.lemmas.List.{get_or-take, get_or-map, length-take}
 use Rattle.std.proofs.lemmas.List.Elements.{Contains-append_left, Contains-append_right, Contains-append_cases}
 use Rattle.smallvec.specs.SmallVec.{SmallVec}
 use Rattle.ternary.specs.declared.tern.Tern.{Tern}
-use Rattle.path_meaning.specs.Switching.{state_at}
+use Rattle.switch_paths.specs.Switching.{state_at}
 use Rattle.part_words.specs.declared.change.Change.{Change}
 use Rattle.machine_parts.specs.Running.{AreAgreed, IsTaken}
 use Rattle.machine_parts.specs.Readers.{readers_of}
-use Rattle.part_steps.specs.Desks.{nodes_noted}
+use Rattle.part_steps.specs.Workspaces.{nodes_noted}
 
 -- some change is of this node, or none is
 pub change_of : (changes : List Change) (node : ℕ) →

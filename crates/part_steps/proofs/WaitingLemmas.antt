@@ -8,7 +8,7 @@ use Rattle.std.proofs.lemmas.List.Sums.{sum_by-cons, sum_by-set}
 use Rattle.std.proofs.lemmas.Nat.{mod_below}
 use Rattle.std.proofs.lemmas.Option.{same_Some, slice_get-get_or}
 use Rattle.part_steps.specs.declared.dense.Seat.{Seat}
-use Rattle.part_steps.specs.declared.batches.TheConstants.{SLOTS}
+use Rattle.part_steps.specs.declared.bundles.TheConstants.{SLOTS}
 use Rattle.part_steps.specs.Waiting.{Slot, slot_for, Waits, IsEmptyFrom, IsEmptyBelow, HasRoom, starts_in, code_in, with_seat, cleared_at, waiting_sum}
 use Rattle.part_steps.proofs.PuttingLemmas.{set_here, set_other}
 

@@ -4,18 +4,18 @@ use Rattle.std.specs.declared.rc.Rc.{Rc}
 use Rattle.std.proofs.Common.{Global}
 use Rattle.straight_code.specs.Code.{CodeData}
 use Rattle.part_words.specs.Noting.{map_at}
-use Rattle.machine_parts.specs.declared.part.HeldPart.{HeldPart}
+use Rattle.machine_parts.specs.declared.part.MachinePart.{MachinePart}
 use Rattle.part_steps.specs.declared.dense.Seat.{Seat}
 use Rattle.part_steps.specs.declared.dense.DenseParts.{DenseParts}
 
 -- the part's code, if it has one, has an input for each node of the part's map
-abbrev pub HasInputs : HeldPart → Type 0
+abbrev pub HasInputs : MachinePart → Type 0
 HasInputs part = (code : Rc CodeData Global) → part.code ≡ Some code → length part.map.items ≡ code.value.inputs
 
 -- there is a list of codes, one for each number of a text, and the code of each part, if it has one, is that of its text's number
-pub record HaveCodes (numbers : List (Option ℕ)) (parts : List HeldPart) : Type 0 where
+pub record HaveCodes (numbers : List (Option ℕ)) (parts : List MachinePart) : Type 0 where
   pub codes : List CodeData
-  pub each : (k n : ℕ) (part : HeldPart) (code : Rc CodeData Global) → slice_get numbers k ≡ Some (Some n) → slice_get parts k ≡ Some part →
+  pub each : (k n : ℕ) (part : MachinePart) (code : Rc CodeData Global) → slice_get numbers k ≡ Some (Some n) → slice_get parts k ≡ Some part →
       part.code ≡ Some code → slice_get codes n ≡ Some code.value
 
 -- the code at this place among the codes is this one
@@ -38,11 +38,11 @@ abbrev pub IsNumbered : List CodeData → Option ℕ → CodeData → Type 0
 IsNumbered list number code = (n : ℕ) → number ≡ Some n → slice_get list n ≡ Some code
 
 -- the part's code, if it has one, is that of the number
-abbrev pub IsPartNumbered : List CodeData → Option ℕ → HeldPart → Type 0
+abbrev pub IsPartNumbered : List CodeData → Option ℕ → MachinePart → Type 0
 IsPartNumbered list number part = (code : Rc CodeData Global) → part.code ≡ Some code → IsNumbered list number code.value
 
 -- the seat tells the part's code, by its place among these codes, and the part's map, which begins at its place among these nodes
-pub record IsPlace (part : HeldPart) (codes : List (Rc CodeData Global)) (nodes : List ℕ) (seat : Seat) : Type 0 where
+pub record IsPlace (part : MachinePart) (codes : List (Rc CodeData Global)) (nodes : List ℕ) (seat : Seat) : Type 0 where
   pub own : Rc CodeData Global
   pub has : part.code ≡ Some own
   pub code : Rc CodeData Global
@@ -52,18 +52,18 @@ pub record IsPlace (part : HeldPart) (codes : List (Rc CodeData Global)) (nodes 
   pub map : map_at nodes code.value.inputs seat.at ≡ part.map.items
 
 -- a part with code has a seat, and one without code has none
-pub record IsSeatOf (part : HeldPart) (codes : List (Rc CodeData Global)) (nodes : List ℕ) (seat : Option Seat) : Type 0 where
+pub record IsSeatOf (part : MachinePart) (codes : List (Rc CodeData Global)) (nodes : List ℕ) (seat : Option Seat) : Type 0 where
   pub none : seat ≡ None → part.code ≡ None
   pub some : (one : Seat) → seat ≡ Some one → IsPlace part codes nodes one
 
 -- these are the seats of the parts, in their order
-pub record AreSeatsOf (parts : List HeldPart) (codes : List (Rc CodeData Global)) (nodes : List ℕ) (seats : List (Option Seat)) : Type 0 where
+pub record AreSeatsOf (parts : List MachinePart) (codes : List (Rc CodeData Global)) (nodes : List ℕ) (seats : List (Option Seat)) : Type 0 where
   pub counted : length seats ≡ length parts
-  pub each : (k : ℕ) (part : HeldPart) (seat : Option Seat) → slice_get parts k ≡ Some part → slice_get seats k ≡ Some seat →
+  pub each : (k : ℕ) (part : MachinePart) (seat : Option Seat) → slice_get parts k ≡ Some part → slice_get seats k ≡ Some seat →
       IsSeatOf part codes nodes seat
 
 -- what a step reads of these parts
-abbrev pub AreDense : List HeldPart → DenseParts → Type 0
+abbrev pub AreDense : List MachinePart → DenseParts → Type 0
 AreDense parts dense = AreSeatsOf parts dense.codes.items dense.nodes.items dense.seats.items
 
 -- more came behind what was there

@@ -1,5 +1,5 @@
 pub mod Dense
 pub mod Waiting
 pub mod Together
-pub mod Desks
+pub mod Workspaces
 pub mod Small

@@ -6,7 +6,7 @@ use Rattle.ternary.specs.declared.tern.Tern.{Tern}
 use Rattle.straight_code.specs.Code.{CodeData}
 use Rattle.part_words.specs.declared.change.Change.{Change}
 use Rattle.part_words.specs.Noting.{map_at, IsNotedAt}
-use Rattle.machine_parts.specs.declared.part.HeldPart.{HeldPart}
+use Rattle.machine_parts.specs.declared.part.MachinePart.{MachinePart}
 use Rattle.part_steps.specs.declared.dense.Seat.{Seat}
 use Rattle.machine_parts.specs.Marking.{IsMarked}
 use Rattle.machine_parts.specs.Evaluating.{Rooms, IsChange}
@@ -54,7 +54,8 @@ pub record TakesIn (joining : Bool) (codes : List (Rc CodeData Global)) (nodes :
 
 -- some of the marked parts were evaluated, none of which waits for code: they aren't marked any more, and the changes that they make are
 -- noted, but for those whose seats wait to be run
-pub record EvaluatedBut (joining : Bool) (parts : List HeldPart) (state : List Tern) (waiting before marks : List Bool) (seats : List (Option Seat))
+pub record EvaluatedBut (joining : Bool) (parts : List MachinePart) (state : List Tern) (waiting before marks : List Bool)
+    (seats : List (Option Seat))
     (slots : List Slot) (changes : List Change) (done : List ℕ) : Type 0 where
   pub fewer : (k : ℕ) → IsMarked marks k → IsMarked before k
   pub marked : (k : ℕ) → Contains done k → IsMarked before k

@@ -2,16 +2,16 @@
 use Rattle.std.specs.Prelude.{◌≡◌, ℕ, ◌*◌, ◌%◌, ◌<◌, ◌≤◌, ◌⊎◌, List, [], ◌∷◌, ◌++◌, length, map, All, Contains, Some, option_map, unwrap_or, slice_get, slice_set, vec_capacity}
 use Rattle.std.specs.List.{sum_by}
 use Rattle.part_steps.specs.declared.dense.Seat.{Seat}
-use Rattle.part_steps.specs.declared.batches.Batch.{Batch}
-use Rattle.part_steps.specs.declared.batches.TheConstants.{SLOTS, LANES}
+use Rattle.part_steps.specs.declared.bundles.Bundle.{Bundle}
+use Rattle.part_steps.specs.declared.bundles.TheConstants.{SLOTS, COLUMNS}
 
 -- the place of a code, and where the maps of parts that wait with it begin
 pub record Slot : Type 0 where
   pub code : ℕ
   pub starts : List ℕ
 
-abbrev pub slots_of : List Batch → List Slot
-slots_of batches = map (λ batch. record { code = batch.code; starts = batch.starts.items }) batches
+abbrev pub slots_of : List Bundle → List Slot
+slots_of bundles = map (λ bundle. record { code = bundle.code; starts = bundle.starts.items }) bundles
 
 -- the slot in which parts with this code wait
 abbrev pub slot_for : ℕ → ℕ
@@ -36,7 +36,7 @@ IsEmptyBelow high slots = (place : ℕ) (slot : Slot) → place < high → slice
 -- a part with this code can wait: in its slot none does, or parts with the same code, and not too many
 abbrev pub HasRoom : List Slot → ℕ → Type 0
 HasRoom slots code =
-    (slot : Slot) → slice_get slots (slot_for code) ≡ Some slot → (slot.starts ≡ []) ⊎ ((slot.code ≡ code) × (length slot.starts < LANES))
+    (slot : Slot) → slice_get slots (slot_for code) ≡ Some slot → (slot.starts ≡ []) ⊎ ((slot.code ≡ code) × (length slot.starts < COLUMNS))
 
 -- where the maps begin that wait in a slot, and their code
 abbrev pub starts_in : List Slot → ℕ → List ℕ
@@ -59,9 +59,9 @@ abbrev pub waiting_sum : (ℕ → ℕ) → List Slot → ℕ
 waiting_sum f slots = sum_by (λ slot. length slot.starts * f slot.code) slots
 
 -- in each slot there is room for as many parts as a word has bits, and none waits in this slot or in one behind it
-pub record AreBatches (batches : List Batch) (high : ℕ) : Type 0 where
-  pub counted : length batches ≡ SLOTS
-  pub few : All (λ (batch : Batch). length batch.starts.items ≤ LANES) batches
-  pub room : All (λ (batch : Batch). LANES ≤ vec_capacity batch.starts) batches
+pub record AreBundles (bundles : List Bundle) (high : ℕ) : Type 0 where
+  pub counted : length bundles ≡ SLOTS
+  pub few : All (λ (bundle : Bundle). length bundle.starts.items ≤ COLUMNS) bundles
+  pub room : All (λ (bundle : Bundle). COLUMNS ≤ vec_capacity bundle.starts) bundles
   pub inside : high ≤ SLOTS
-  pub empty : IsEmptyFrom high (slots_of batches)
+  pub empty : IsEmptyFrom high (slots_of bundles)

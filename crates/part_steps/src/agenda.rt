@@ -98,7 +98,7 @@ impl Agenda {
     }
 
     /// These parts can be evaluated from now on, and those of the others that wait go on waiting. All marks stay.
-    pub fn rouse(&mut self, these: &[usize])
+    pub fn make_ready(&mut self, these: &[usize])
         requires { All (λ k. k < length self.old.marks) these.now }
         ensures marks { self.new.marks ≡ self.old.marks }
         ensures waiting { (k : ℕ) → IsMarked self.new.waiting k ↔ (IsMarked self.old.waiting k × (¬ Contains these.now k)) }

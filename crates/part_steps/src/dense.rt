@@ -1,12 +1,12 @@
 //! What a step reads of the parts, in a dense form.
 ghost use Rattle.std.specs.Prelude.{◌≡◌, List, ◌<◌, ◌++◌, ◌∷◌, [], None, Some, length, slice_get, slice_set, vec_len, vec_capacity, All, IfOk, IfSome, OnOk};
 ghost use Rattle.straight_code.specs.Code.{CodeData};
-ghost use Rattle.machine_parts.specs.declared.part.HeldPart.{HeldPart};
+ghost use Rattle.machine_parts.specs.declared.part.MachinePart.{MachinePart};
 ghost use Rattle.machine_parts.specs.Words.{Puts, AreOnce};
 ghost use Rattle.part_steps.specs.Dense.{AreDense, AreSeatsOf, IsSeatOf, HasInputs, ArePlaces, Grows, IsCodeAt, IsMapAt, IsNumbered, IsPartNumbered};
 
 use crate::putting::put_in;
-use machine_parts::HeldPart;
+use machine_parts::MachinePart;
 use std::alloc::{AllocError, Global};
 use std::rc::Rc;
 use straight_code::Code;
@@ -38,7 +38,7 @@ impl DenseParts {
     #[tactic(auto, using(crate::proofs::DenseLemmas::grows_same, crate::proofs::DenseLemmas::grows_then, crate::proofs::DenseLemmas::places_more))]
     pub fn seat_shared(
         &mut self,
-        part: &HeldPart,
+        part: &MachinePart,
         number: Option<usize>,
         places: &mut [Option<u32>],
     ) -> Result<Option<Seat>, NoMemory>
@@ -130,14 +130,14 @@ impl DenseParts {
     /// The part with this number loses its code.
     pub fn clear(&mut self, k: usize)
         requires { k < length self.old.seats.items }
-        ensures { (parts : List HeldPart) (part : HeldPart) → part.code ≡ None → AreDense parts self.old → AreDense (slice_set parts k part) self.new }
+        ensures { (parts : List MachinePart) (part : MachinePart) → part.code ≡ None → AreDense parts self.old → AreDense (slice_set parts k part) self.new }
     {
         self.seats[k] = None;
     }
 
     /// Takes room for one seat more.
     pub fn make_room(&mut self) -> Result<(), AllocError>
-        ensures same { (parts : List HeldPart) → AreDense parts self.old → AreDense parts self.new }
+        ensures same { (parts : List MachinePart) → AreDense parts self.old → AreDense parts self.new }
         ensures room { OnOk result (vec_len self.new.seats < vec_capacity self.new.seats) }
     {
         self.seats.reserve(1)
@@ -146,7 +146,8 @@ impl DenseParts {
     /// Adds the seat of a part without code, for which there is room.
     pub fn add_stale(&mut self)
         requires { vec_len self.old.seats < vec_capacity self.old.seats }
-        ensures { (parts : List HeldPart) (part : HeldPart) → part.code ≡ None → AreDense parts self.old → AreDense (parts ++ part ∷ []) self.new }
+        ensures { (parts : List MachinePart) (part : MachinePart) → part.code ≡ None → AreDense parts self.old
+            → AreDense (parts ++ part ∷ []) self.new }
     {
         self.seats.push_reserved(None);
     }
@@ -156,10 +157,10 @@ impl DenseParts {
     pub fn seats_for(
         &mut self,
         alloc: Global,
-        parts: &[HeldPart],
+        parts: &[MachinePart],
     ) -> Result<Vec<Option<Seat>>, NoMemory>
         requires inputs { All HasInputs parts.now }
-        ensures same { (others : List HeldPart) → AreDense others self.old → AreDense others self.new }
+        ensures same { (others : List MachinePart) → AreDense others self.old → AreDense others self.new }
         ensures seats { IfOk result (λ seats. AreSeatsOf parts.now self.new.codes.items self.new.nodes.items seats.items) }
     {
         let codes = self.codes.len();
@@ -179,7 +180,7 @@ impl DenseParts {
     fn add_seats(
         &mut self,
         alloc: Global,
-        parts: &[HeldPart],
+        parts: &[MachinePart],
     ) -> Result<Vec<Option<Seat>>, NoMemory>
         requires { All HasInputs parts.now }
         ensures more { Grows self.old self.new }
@@ -197,7 +198,7 @@ impl DenseParts {
     pub fn put_all(&mut self, slots: &[usize], seats: Vec<Option<Seat>>)
         requires inside { All (λ k. k < length self.old.seats.items) slots.now }
         requires counted { length seats.items ≡ length slots.now }
-        ensures { (fresh old new : List HeldPart) → AreOnce slots.now → AreSeatsOf fresh self.old.codes.items self.old.nodes.items seats.items
+        ensures { (fresh old new : List MachinePart) → AreOnce slots.now → AreSeatsOf fresh self.old.codes.items self.old.nodes.items seats.items
             → Puts slots.now fresh old new → AreDense old self.old → AreDense new self.new }
     {
         put_in(slots, seats, &mut self.seats);

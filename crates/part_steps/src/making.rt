@@ -2,21 +2,21 @@
 ghost use Rattle.std.specs.Prelude.{◌≡◌, ◌+◌, ◌-◌, ◌*◌, ◌^◌, ◌<◌, ◌≤◌, length, vec_capacity, map, zip, count_by, All, Some, IfOk, IfSome, IfNone, OnOk};
 ghost use Rattle.std.specs.List.{sum_by};
 ghost use Rattle.machine_parts.specs.Words.{AreApart, has_members, members_of, AreOwners, held, Owns, HasRoomFor, IsCodeRoom, NeedTooMuch};
-ghost use Rattle.part_steps.specs.Desks.{rooms};
+ghost use Rattle.part_steps.specs.Workspaces.{rooms};
 
-use crate::batches::Batches;
-use crate::evaluation::Desk;
-use machine_parts::HeldPart;
+use crate::bundles::Bundles;
+use crate::evaluation::Workspace;
+use machine_parts::MachinePart;
 use std::alloc::{AllocError, Global};
 use straight_code::{Code, Part};
 use ternary::NoMemory;
 
 /// The parts, each with the nodes that it reads.
-pub fn held_parts(
+pub fn parts_with_reads(
     alloc: Global,
     parts: Vec<Part>,
     reads: Vec<Vec<usize>>,
-) -> Result<Vec<HeldPart>, AllocError>
+) -> Result<Vec<MachinePart>, AllocError>
     requires { length reads.items ≡ length parts.items }
     ensures { IfOk result (λ made. made.items ≡ map held (zip parts.items reads.items)) }
 {
@@ -28,10 +28,10 @@ pub fn held_parts(
 }
 
 // A part that reads these nodes.
-fn held(part: Part, reads: Vec<usize>) -> HeldPart
+fn held(part: Part, reads: Vec<usize>) -> MachinePart
     ensures { result ≡ held (part, reads) }
 {
-    HeldPart {
+    MachinePart {
         code: Some(part.code),
         map: part.map,
         members: part.members,
@@ -40,7 +40,7 @@ fn held(part: Part, reads: Vec<usize>) -> HeldPart
 }
 
 /// How many parts have a member.
-pub fn count_held(parts: &[HeldPart]) -> usize
+pub fn count_held(parts: &[MachinePart]) -> usize
     ensures { result ≡ count_by has_members parts.now }
 {
     let mut count = 0;
@@ -55,7 +55,7 @@ pub fn count_held(parts: &[HeldPart]) -> usize
 /// For each of so many nodes the part that it is a member of, if there is one.
 pub fn all_owners(
     alloc: Global,
-    parts: &[HeldPart],
+    parts: &[MachinePart],
     nodes: usize,
 ) -> Result<Vec<Option<usize>>, AllocError>
     requires below { All (λ part. All (λ node. node < nodes) part.map.items) parts.now }
@@ -90,17 +90,17 @@ pub struct Needs {
 }
 
 /// Room for the steps of these parts.
-pub fn desk_for(alloc: Global, parts: &[HeldPart]) -> Result<Desk, NoMemory>
-    ensures { IfOk result (λ desk. HasRoomFor parts.now (rooms desk)) }
+pub fn workspace_for(alloc: Global, parts: &[MachinePart]) -> Result<Workspace, NoMemory>
+    ensures { IfOk result (λ workspace. HasRoomFor parts.now (rooms workspace)) }
 {
     match needs_of(parts) {
-        Some(needs) => Ok(desk_of(alloc, needs, parts.len())?),
+        Some(needs) => Ok(workspace_of(alloc, needs, parts.len())?),
         None => Err(NoMemory),
     }
 }
 
 /// How much room these parts need; None only if it is more than the machine's numbers count.
-pub fn needs_of(parts: &[HeldPart]) -> Option<Needs>
+pub fn needs_of(parts: &[MachinePart]) -> Option<Needs>
     ensures values { IfSome result (λ needs. All (IsCodeRoom needs.values) parts.now) }
     ensures changes { IfSome result (λ needs. sum_by members_of parts.now ≤ needs.changes) }
     ensures none { IfNone result (NeedTooMuch parts.now) }
@@ -117,7 +117,7 @@ pub fn needs_of(parts: &[HeldPart]) -> Option<Needs>
 }
 
 // How many values the code of a part reads.
-fn values_of(part: &HeldPart) -> Option<usize>
+fn values_of(part: &MachinePart) -> Option<usize>
     ensures some { IfSome result (λ count. IsCodeRoom count part.now) }
     ensures none { IfNone result (¬ IsCodeRoom (2 ^ 64 - 1) part.now) }
 {
@@ -137,45 +137,49 @@ fn count_values(code: &Code) -> Option<usize>
 }
 
 // Room for so much, and so many parts.
-fn desk_of(alloc: Global, needs: Needs, parts: usize) -> Result<Desk, AllocError>
-    ensures values { IfOk result (λ desk. length desk.values.items ≡ needs.values) }
-    ensures changes { IfOk result (λ desk. needs.changes ≤ vec_capacity desk.changes) }
-    ensures parts { IfOk result (λ desk. parts ≤ vec_capacity desk.done) }
+fn workspace_of(alloc: Global, needs: Needs, parts: usize) -> Result<Workspace, AllocError>
+    ensures values { IfOk result (λ workspace. length workspace.values.items ≡ needs.values) }
+    ensures changes { IfOk result (λ workspace. needs.changes ≤ vec_capacity workspace.changes) }
+    ensures parts { IfOk result (λ workspace. parts ≤ vec_capacity workspace.done) }
 {
-    Ok(Desk {
+    Ok(Workspace {
         values: vec![in alloc; 0; needs.values]?,
-        batches: Batches::new(alloc)?,
+        bundles: Bundles::new(alloc)?,
         changes: Vec::with_capacity(alloc, needs.changes)?,
         done: Vec::with_capacity(alloc, parts)?,
     })
 }
 
 /// Takes room for so many changes and so many parts, beside what there is.
-pub fn widen_for_parts(desk: &mut Desk, changes: usize, parts: usize) -> Result<(), AllocError>
-    ensures values { (rooms desk.new).values ≡ (rooms desk.old).values }
-    ensures changes { (rooms desk.old).changes ≤ (rooms desk.new).changes }
-    ensures parts { (rooms desk.old).parts ≤ (rooms desk.new).parts }
-    ensures more_changes { OnOk result (changes ≤ (rooms desk.new).changes) }
-    ensures more_parts { OnOk result (parts ≤ (rooms desk.new).parts) }
+pub fn widen_for_parts(
+    workspace: &mut Workspace,
+    changes: usize,
+    parts: usize,
+) -> Result<(), AllocError>
+    ensures values { (rooms workspace.new).values ≡ (rooms workspace.old).values }
+    ensures changes { (rooms workspace.old).changes ≤ (rooms workspace.new).changes }
+    ensures parts { (rooms workspace.old).parts ≤ (rooms workspace.new).parts }
+    ensures more_changes { OnOk result (changes ≤ (rooms workspace.new).changes) }
+    ensures more_parts { OnOk result (parts ≤ (rooms workspace.new).parts) }
 {
-    desk.changes.clear();
-    desk.done.clear();
-    desk.changes.reserve(changes)?;
-    desk.done.reserve(parts)?;
+    workspace.changes.clear();
+    workspace.done.clear();
+    workspace.changes.reserve(changes)?;
+    workspace.done.reserve(parts)?;
     Ok(())
 }
 
 /// Takes room for so many values, beside what there is.
-pub fn widen_for_codes(desk: &mut Desk, values: usize) -> Result<(), AllocError>
-    ensures values { OnOk result (values ≤ length desk.new.values.items) }
-    ensures more_values { length desk.old.values.items ≤ length desk.new.values.items }
-    ensures changes { vec_capacity desk.new.changes ≡ vec_capacity desk.old.changes }
-    ensures done { vec_capacity desk.new.done ≡ vec_capacity desk.old.done }
-    ensures changes_are { desk.new.changes ≡ desk.old.changes }
-    ensures done_are { desk.new.done ≡ desk.old.done }
+pub fn widen_for_codes(workspace: &mut Workspace, values: usize) -> Result<(), AllocError>
+    ensures values { OnOk result (values ≤ length workspace.new.values.items) }
+    ensures more_values { length workspace.old.values.items ≤ length workspace.new.values.items }
+    ensures changes { vec_capacity workspace.new.changes ≡ vec_capacity workspace.old.changes }
+    ensures done { vec_capacity workspace.new.done ≡ vec_capacity workspace.old.done }
+    ensures changes_are { workspace.new.changes ≡ workspace.old.changes }
+    ensures done_are { workspace.new.done ≡ workspace.old.done }
 {
-    if desk.values.len() < values {
-        desk.values.resize(values, 0)?;
+    if workspace.values.len() < values {
+        workspace.values.resize(values, 0)?;
     }
     Ok(())
 }

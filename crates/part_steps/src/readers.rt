@@ -4,7 +4,7 @@ ghost use Rattle.std.specs.List.{IsDistinct};
 ghost use Rattle.list_facts.specs.Taking.{TakesOut};
 ghost use Rattle.machine_parts.specs.Words.{AreOnce, ReadsAt, readers_of, AreEachOnce, IsLastIf, Adds, ListsSome, Unlists, ListsAll, HaveSameReaders, AreListed, AreOffTo};
 
-use machine_parts::HeldPart;
+use machine_parts::MachinePart;
 use smallvec::SmallVec;
 use std::alloc::{AllocError, Global};
 use std::marker::Model;
@@ -42,7 +42,7 @@ impl ReaderLists {
     /// The readers of each of so many nodes.
     pub fn of_parts(
         alloc: Global,
-        parts: &[HeldPart],
+        parts: &[MachinePart],
         nodes: usize,
     ) -> Result<ReaderLists, NoMemory>
         requires { All (λ part. All (λ node. node < nodes) part.reads.items) parts.now }
@@ -83,8 +83,8 @@ impl ReaderLists {
     pub fn list_all(
         &mut self,
         slots: &[usize],
-        fresh: &[HeldPart],
-        parts: &[HeldPart],
+        fresh: &[MachinePart],
+        parts: &[MachinePart],
     ) -> Result<(), NoMemory>
         requires counted { length fresh.now ≡ length slots.now }
         requires below { All (λ part. All (λ node. node < length self.old) part.reads.items) fresh.now }
@@ -99,7 +99,7 @@ impl ReaderLists {
     }
 
     /// Takes a part out of the readers of these nodes, which it read. The work is that of the nodes.
-    pub fn unlist(&mut self, k: usize, nodes: &[usize], parts: &[HeldPart])
+    pub fn unlist(&mut self, k: usize, nodes: &[usize], parts: &[MachinePart])
         requires { All (λ node. node < length self.old) nodes.now }
         ensures { Unlists k nodes.now self.old self.new }
     {
@@ -135,7 +135,7 @@ fn grow_readers(alloc: Global, readers: &mut Vec<Readers>, nodes: usize)
 // Lists all parts as readers of what they read, if none is listed.
 fn list_parts(
     alloc: Global,
-    parts: &[HeldPart],
+    parts: &[MachinePart],
     lists: &mut [Readers],
     spots: &mut [Spots],
 ) -> Result<(), NoMemory>
@@ -154,8 +154,8 @@ fn list_parts(
 fn list_all(
     alloc: Global,
     slots: &[usize],
-    fresh: &[HeldPart],
-    parts: &[HeldPart],
+    fresh: &[MachinePart],
+    parts: &[MachinePart],
     lists: &mut [Readers],
     spots: &mut [Spots],
 ) -> Result<(), NoMemory>
@@ -180,8 +180,8 @@ fn list_all(
 // Takes these parts off the lists of the readers of what they read.
 fn unlist_all(
     slots: &[usize],
-    fresh: &[HeldPart],
-    parts: &[HeldPart],
+    fresh: &[MachinePart],
+    parts: &[MachinePart],
     lists: &mut [Readers],
     spots: &mut [Spots],
 )
@@ -261,7 +261,13 @@ fn is_last(k: usize, list: &[usize]) -> bool
 }
 
 // Takes a part off the lists of these nodes.
-fn unlist(k: usize, nodes: &[usize], parts: &[HeldPart], lists: &mut [Readers], spots: &mut [Spots])
+fn unlist(
+    k: usize,
+    nodes: &[usize],
+    parts: &[MachinePart],
+    lists: &mut [Readers],
+    spots: &mut [Spots],
+)
     requires below { All (λ node. node < length lists.old) nodes.now }
     requires each { AreEachOnce lists.old }
     ensures { Unlists k nodes.now lists.old lists.new }
@@ -348,7 +354,7 @@ fn set_spots(k: usize, fresh: Spots, spots: &mut [Spots]) {
 }
 
 // Notes that the part at this spot of a node's list came there, if one stands there.
-fn moved(spot: usize, node: usize, list: &[usize], parts: &[HeldPart], spots: &mut [Spots]) {
+fn moved(spot: usize, node: usize, list: &[usize], parts: &[MachinePart], spots: &mut [Spots]) {
     if spot >= list.len() {
         return;
     }

@@ -1,20 +1,20 @@
 //! One step: all marked parts, and what is awake, are evaluated under the old state; then the changes are taken over.
 ghost use Rattle.std.specs.Prelude.{◌≡◌, ◌≢◌, ℕ, ◌+◌, ◌<◌, ◌≤◌, ◌⊎◌, ◌++◌, true, length, Contains, vec_capacity};
 ghost use Rattle.std.specs.Bool.{OnTrue, OnFalse};
-ghost use Rattle.oscillation_x.specs.Settling.{StaysOrBecomesX};
-ghost use Rattle.oscillation_x.specs.Moved.{ListsChanges};
+ghost use Rattle.settling.specs.Settling.{StaysOrBecomesX};
+ghost use Rattle.settling.specs.Moved.{ListsChanges};
 ghost use Rattle.part_words.specs.declared.change.Change.{Change};
 ghost use Rattle.machine_parts.specs.Words.{marked_sum, instructions_of, MarksAll, Remarks, IsRunnable, AreAgreed, IsTaken, ReadsAny, readers_of};
 ghost use Rattle.wide_groups.specs.Moving.{MovesIn, RetouchesIn};
 ghost use Rattle.wide_groups.specs.Awake.{HoldsWide, IsListedIn, TurnedIn, IsWorked};
-ghost use Rattle.part_steps.specs.Desks.{rooms, nodes_noted};
+ghost use Rattle.part_steps.specs.Workspaces.{rooms, nodes_noted};
 ghost use Rattle.part_steps.specs.Dense.{AreDense};
 
 use crate::agenda::{Agenda, mark_all};
 use crate::dense::DenseParts;
-use crate::evaluation::{Desk, evaluate_all};
+use crate::evaluation::{Workspace, evaluate_all};
 use crate::readers::ReaderLists;
-use machine_parts::HeldPart;
+use machine_parts::MachinePart;
 use part_words::Change;
 use std::sync::ledger::Ledger;
 use ternary::{Steps, Tern};
@@ -26,46 +26,46 @@ use wide_groups::{calm, evaluate_awake, touched_is_listed, write};
 /// Its work is that of the marked parts, of the nodes that are awake in groups that are stepped by vicinities, if such
 /// are known, and of the parts that read a node that changes. It takes no memory: there is room for a change of each
 /// member of the marked parts, since each evaluation clears a mark, and in `noted` for one of each node. The nodes
-/// that change are those that the desk and `noted` list afterwards.
+/// that change are those that the workspace and `noted` list afterwards.
 pub fn advance<L: Ledger>(
     joining: bool,
-    parts: &[HeldPart],
+    parts: &[MachinePart],
     dense: &DenseParts,
     readers: &ReaderLists,
     state: &mut [Tern],
     agenda: &mut Agenda,
-    desk: &mut Desk,
+    workspace: &mut Workspace,
     wide: &mut Option<Wide>,
     noted: &mut Vec<Change>,
     steps: &mut Steps<L>,
 ) -> bool
     requires dense { AreDense parts.now dense.now }
     requires wide { HoldsWide parts.now state.old (vec_capacity noted.old) wide.old }
-    requires runnable { IsRunnable parts.now agenda.old.marks agenda.old.waiting (length state.old) readers.now (rooms desk.old) }
+    requires runnable { IsRunnable parts.now agenda.old.marks agenda.old.waiting (length state.old) readers.now (rooms workspace.old) }
     ensures moves { MovesIn joining parts.now agenda.old.marks wide.old state.old state.new }
     ensures retouches { RetouchesIn joining wide.old wide.new state.old state.new }
     ensures holds { HoldsWide parts.now state.new (vec_capacity noted.new) wide.new }
     ensures noted { vec_capacity noted.new ≡ vec_capacity noted.old }
     ensures marks { Remarks joining parts.now agenda.old.marks state.old state.new agenda.new.marks }
     ensures waiting { agenda.new.waiting ≡ agenda.old.waiting }
-    ensures rooms { rooms desk.new ≡ rooms desk.old }
+    ensures rooms { rooms workspace.new ≡ rooms workspace.old }
     ensures steps { IsWorked (marked_sum instructions_of parts.now agenda.old.marks) wide.old state.old steps.old steps.new }
     ensures changed { OnTrue result (state.new ≢ state.old) }
     ensures same { OnFalse result (state.new ≡ state.old) }
     ensures unknown { joining ≡ true → StaysOrBecomesX state.old state.new }
-    ensures listed { ListsChanges (nodes_noted (desk.new.changes.items ++ noted.new.items)) state.old state.new }
+    ensures listed { ListsChanges (nodes_noted (workspace.new.changes.items ++ noted.new.items)) state.old state.new }
 {
-    desk.changes.clear();
-    desk.done.clear();
-    evaluate_all(joining, parts, dense, state, agenda, desk, steps);
+    workspace.changes.clear();
+    workspace.done.clear();
+    evaluate_all(joining, parts, dense, state, agenda, workspace, steps);
     evaluate_awake(joining, wide, state, noted, steps);
-    mark_again(joining, &desk.done, agenda);
+    mark_again(joining, &workspace.done, agenda);
     touched_is_listed(wide);
     calm(joining, wide);
-    take_over(&desk.changes, readers, state, agenda, wide);
+    take_over(&workspace.changes, readers, state, agenda, wide);
     take_over(noted, readers, state, agenda, wide);
     touched_is_listed(wide);
-    is_any(&desk.changes, noted)
+    is_any(&workspace.changes, noted)
 }
 
 /// Whether some change is in one of these lists.

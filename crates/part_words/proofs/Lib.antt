@@ -1,3 +1,3 @@
 pub mod GatherLemmas
-pub mod LaneStates
+pub mod ColumnStates
 pub mod NotingLemmas

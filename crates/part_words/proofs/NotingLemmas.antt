@@ -6,13 +6,13 @@ use Rattle.std.proofs.lemmas.List.{get_or-map, get_or-take, length-map, take_mor
 use Rattle.std.proofs.lemmas.List.Elements.{Contains-push, Contains-push_cases, Contains-append_left}
 use Rattle.ternary.specs.declared.tern.Tern.{Tern}
 use Rattle.ternary.specs.declared.tern.Tern.TheVariants.{Zero}
-use Rattle.path_meaning.specs.Switching.{state_at}
+use Rattle.switch_paths.specs.Switching.{state_at}
 use Rattle.straight_code.specs.declared.code.Operand.TheVariants.{High, Low}
 use Rattle.straight_code.specs.Code.{CodeData, code_value, output_state, results}
 use Rattle.straight_code.specs.Flat.{flat_values}
 use Rattle.straight_code.proofs.FlatLemmas.{operand_at_place}
-use Rattle.batch_words.specs.Lanes.{lane_of}
-use Rattle.batch_words.proofs.LaneLemmas.{lane_of-at}
+use Rattle.word_columns.specs.Columns.{column_bits}
+use Rattle.word_columns.proofs.ColumnLemmas.{column_bits-at}
 use Rattle.part_words.specs.declared.change.Change.{Change}
 use Rattle.part_words.specs.Members.{HasState, IsMoved, NotesEach}
 use Rattle.part_words.specs.Noting.{after, map_at, states_at, IsNotedAt, NotesAll}
@@ -68,19 +68,19 @@ module _ (IsSo : ℕ → Change → Type 0) where
   }
 
   -- the next of the parts, in which nothing changes
-  pub NotesEach-at_same : (starts : List ℕ) (lane : ℕ) → lane < length starts → (old mid : List Change) →
-      ((change : Change) → ¬ IsSo (get_or starts lane 0) change) → NotesEach (take lane starts) IsSo old mid → NotesEach (take (lane + 1) starts) IsSo old mid
-  NotesEach-at_same starts lane inside old mid none notes =
-      subst (λ list. NotesEach list IsSo old mid) (sym (take_more starts lane 0 inside))
-      (NotesEach-same (take lane starts) (get_or starts lane 0) old mid none notes)
+  pub NotesEach-at_same : (starts : List ℕ) (column : ℕ) → column < length starts → (old mid : List Change) →
+      ((change : Change) → ¬ IsSo (get_or starts column 0) change) → NotesEach (take column starts) IsSo old mid → NotesEach (take (column + 1) starts) IsSo old mid
+  NotesEach-at_same starts column inside old mid none notes =
+      subst (λ list. NotesEach list IsSo old mid) (sym (take_more starts column 0 inside))
+      (NotesEach-same (take column starts) (get_or starts column 0) old mid none notes)
 
   -- and in which this alone changes
-  pub NotesEach-at_more : (starts : List ℕ) (lane : ℕ) → lane < length starts → (change : Change) (old mid : List Change) → IsSo (get_or starts lane 0) change →
-      ((other : Change) → IsSo (get_or starts lane 0) other → change ≡ other) → NotesEach (take lane starts) IsSo old mid →
-      NotesEach (take (lane + 1) starts) IsSo old (mid ++ change ∷ [])
-  NotesEach-at_more starts lane inside change old mid own alone notes =
-      subst (λ list. NotesEach list IsSo old (mid ++ change ∷ [])) (sym (take_more starts lane 0 inside))
-      (NotesEach-more (take lane starts) (get_or starts lane 0) change old mid own alone notes)
+  pub NotesEach-at_more : (starts : List ℕ) (column : ℕ) → column < length starts → (change : Change) (old mid : List Change) → IsSo (get_or starts column 0) change →
+      ((other : Change) → IsSo (get_or starts column 0) other → change ≡ other) → NotesEach (take column starts) IsSo old mid →
+      NotesEach (take (column + 1) starts) IsSo old (mid ++ change ∷ [])
+  NotesEach-at_more starts column inside change old mid own alone notes =
+      subst (λ list. NotesEach list IsSo old (mid ++ change ∷ [])) (sym (take_more starts column 0 inside))
+      (NotesEach-more (take column starts) (get_or starts column 0) change old mid own alone notes)
 
 -- a member of a part changes in one way
 pub IsMoved-one : (nodes : List ℕ) (k : ℕ) (before next : ℕ → Tern) (at : ℕ) (first second : Change) → IsMoved nodes k before next at first →
@@ -194,18 +194,18 @@ module _ (joining : Bool) (code : CodeData) (nodes : List ℕ) (state : List Ter
 -- ---- the rails in the array
 
 -- in the array with the rails of the inputs, an input has those of its state
-pub rails_at : (lane inputs more : ℕ) (values : List ℕ) (input : List Tern) (done : List Bool) (k : ℕ) → length input ≡ inputs → k < inputs →
-    2 + 2 * inputs + more ≤ length values → take (2 + 2 * inputs + more) (lane_of lane values) ≡ flat_values input done →
-    HasState lane (get_or values (2 + 2 * k) 0) (get_or values (3 + 2 * k) 0) (state_at input k)
-rails_at lane inputs more values input done k many inside room whole =
+pub rails_at : (column inputs more : ℕ) (values : List ℕ) (input : List Tern) (done : List Bool) (k : ℕ) → length input ≡ inputs → k < inputs →
+    2 + 2 * inputs + more ≤ length values → take (2 + 2 * inputs + more) (column_bits column values) ≡ flat_values input done →
+    HasState column (get_or values (2 + 2 * k) 0) (get_or values (3 + 2 * k) 0) (state_at input k)
+rails_at column inputs more values input done k many inside room whole =
     let end = 2 + 2 * inputs + more in
     let within : k < length input = omega (arith, inside, many) in
     record {
-      one = sym (lane_of-at lane values (2 + 2 * k) (omega (arith, inside, room)))
-          ∙ (sym (get_or-take end (lane_of lane values) (2 + 2 * k) false (omega (arith, inside)))
+      one = sym (column_bits-at column values (2 + 2 * k) (omega (arith, inside, room)))
+          ∙ (sym (get_or-take end (column_bits column values) (2 + 2 * k) false (omega (arith, inside)))
           ∙ (ap (λ bits. get_or bits (2 + 2 * k) false) whole ∙ operand_at_place input done 0 (High k) within));
-      other = sym (lane_of-at lane values (3 + 2 * k) (omega (arith, inside, room)))
-          ∙ (sym (get_or-take end (lane_of lane values) (3 + 2 * k) false (omega (arith, inside)))
+      other = sym (column_bits-at column values (3 + 2 * k) (omega (arith, inside, room)))
+          ∙ (sym (get_or-take end (column_bits column values) (3 + 2 * k) false (omega (arith, inside)))
           ∙ (ap (λ bits. get_or bits (3 + 2 * k) false) whole ∙ operand_at_place input done 0 (Low k) within));
     }
 

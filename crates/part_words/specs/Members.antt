@@ -4,23 +4,23 @@ use Rattle.ternary.specs.declared.tern.Tern.{Tern}
 use Rattle.ternary.specs.Tern.{may_one, may_zero}
 use Rattle.straight_code.specs.Code.{CodeData, results}
 use Rattle.straight_code.specs.Flat.{flat_values}
-use Rattle.batch_words.specs.Lanes.{is_in_lane, lane_of}
+use Rattle.word_columns.specs.Columns.{is_in_column, column_bits}
 use Rattle.part_words.specs.Noting.{states_at}
 use Rattle.part_words.specs.declared.change.Change.{Change}
 
--- the lane's bits of both words are the rails of the state, "may be 1" first
-pub record HasState (lane hi lo : ℕ) (state : Tern) : Type 0 where
-  pub one : is_in_lane lane hi ≡ may_one state
-  pub other : is_in_lane lane lo ≡ may_zero state
+-- the column's bits of both words are the rails of the state, "may be 1" first
+pub record HasState (column hi lo : ℕ) (state : Tern) : Type 0 where
+  pub one : is_in_column column hi ≡ may_one state
+  pub other : is_in_column column lo ≡ may_zero state
 
--- in the lane of each part both words are the rails of the state that belongs to the place at which its map begins
+-- in the column of each part both words are the rails of the state that belongs to the place at which its map begins
 abbrev pub HasRails : List ℕ → ℕ → ℕ → (ℕ → Tern) → Type 0
-HasRails starts hi lo states = (lane at : ℕ) → slice_get starts lane ≡ Some at → HasState lane hi lo (states at)
+HasRails starts hi lo states = (column at : ℕ) → slice_get starts column ≡ Some at → HasState column hi lo (states at)
 
--- in the lane of each part the array has the rails of the part's inputs and the results of the code's instructions
+-- in the column of each part the array has the rails of the part's inputs and the results of the code's instructions
 abbrev pub HasRun : CodeData → List ℕ → List ℕ → List Tern → List ℕ → Type 0
-HasRun code nodes starts state values = (lane at : ℕ) → slice_get starts lane ≡ Some at →
-    take (2 + 2 * code.inputs + length code.instructions) (lane_of lane values)
+HasRun code nodes starts state values = (column at : ℕ) → slice_get starts column ≡ Some at →
+    take (2 + 2 * code.inputs + length code.instructions) (column_bits column values)
     ≡ flat_values (states_at state nodes code.inputs at) (results (states_at state nodes code.inputs at) code.instructions)
 
 -- the member at place k of the part whose map begins at this place changes so, by its states before and after

@@ -5,10 +5,10 @@ ghost use Rattle.part_words.specs.Noting.{map_at, NotesAll};
 use crate::change::Change;
 use crate::gather::gather;
 use crate::note::note_all;
-use batch_words::run_steps;
 use std::sync::ledger::Ledger;
 use straight_code::Code;
 use ternary::{Steps, Tern};
+use word_columns::run_steps;
 
 /// Runs code for up to 64 parts of a machine in the time of one, and notes each member whose next state differs from
 /// its state.
@@ -26,7 +26,7 @@ pub fn run_together<L: Ledger>(
     changes: &mut Vec<Change>,
     steps: &mut Steps<L>,
 )
-    requires lanes { length starts.now ≤ 64 }
+    requires columns { length starts.now ≤ 64 }
     requires inside { All (λ at. at + code.now.inputs ≤ length nodes.now) starts.now }
     requires below { All (λ at. All (λ node. node < length state.now) (map_at nodes.now code.now.inputs at)) starts.now }
     requires front { length code.now.outputs ≤ code.now.inputs }

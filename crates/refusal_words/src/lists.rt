@@ -1,7 +1,7 @@
 //! The words of refused lines of a list of faults.
 
 use crate::line_parts::{first_word, line_at, word_behind};
-use wave_print::FaultCode;
+use printed_lines::FaultCode;
 
 /// The word that the refusal of the line with this number of a list is about.
 pub fn list_word(code: FaultCode, text: &[u8], number: u64) -> &[u8] {

@@ -2,8 +2,8 @@
 
 use crate::line_parts::{after_first, first_word, word_behind};
 use line_words::{decimal, words};
+use printed_lines::FaultCode;
 use strength_order::{Profile, size_level, switch_level};
-use wave_print::FaultCode;
 
 /// The word that the refusal of this line of a netlist is about.
 pub fn net_word(code: FaultCode, line: &[u8]) -> &[u8] {

@@ -4,9 +4,9 @@ use crate::line_parts::{cut_at_equals, first_word, last_word, line_at, word_behi
 use line_words::{decimal, lines, words};
 use netlist::{Circuit, RAILS};
 use node_words::{Named, Vectors};
+use printed_lines::FaultCode;
 use strength_order::INPUT_LEVEL;
 use ternary::Tern;
-use wave_print::FaultCode;
 
 /// The word that the refusal of the line with this number of a script is about, in the circuit and among the vectors
 /// at the refusal.

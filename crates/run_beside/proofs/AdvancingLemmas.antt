@@ -8,9 +8,9 @@ use Rattle.std.proofs.lemmas.List.Elements.{Contains-append_left, Contains-appen
 use Rattle.smallvec.specs.SmallVec.{SmallVec}
 use Rattle.ternary.specs.declared.tern.Tern.{Tern}
 use Rattle.ternary.specs.declared.tern.Tern.TheVariants.{Zero}
-use Rattle.path_meaning.specs.Switching.{state_at}
+use Rattle.switch_paths.specs.Switching.{state_at}
 use Rattle.part_words.specs.declared.change.Change.{Change}
-use Rattle.machine_parts.specs.declared.part.HeldPart.{HeldPart}
+use Rattle.machine_parts.specs.declared.part.MachinePart.{MachinePart}
 use Rattle.machine_parts.specs.Marking.{IsMarked, MarksAll}
 use Rattle.machine_parts.specs.Stepping.{IsGiven, StaysMarked}
 use Rattle.machine_parts.specs.Evaluating.{Rooms, Evaluated}
@@ -49,7 +49,7 @@ taken_somewhere changes old inside agreed =
               (IsTaken-more changes i first old mid test (inside (get_or changes i first) (Contains-get_or changes i first test)) agreed taken),
         )
 
-module _ (joining : Bool) (parts : List HeldPart) (marks waiting : List Bool) (old : List Tern) (readers : List (SmallVec ℕ)) (room : Rooms)
+module _ (joining : Bool) (parts : List MachinePart) (marks waiting : List Bool) (old : List Tern) (readers : List (SmallVec ℕ)) (room : Rooms)
     (runs : IsRunnable parts marks waiting (length old) readers room) (wide : Option WideData) (noted_room : ℕ) (holds : HoldsWide parts old noted_room wide)
     (waits : (k : ℕ) → IsMarked waiting k → IsMarked marks k) (owners : List (Option ℕ)) (owned : AreOwners parts (length old) owners)
     (apart : List Bool) (only : (k : ℕ) → IsMarked marks k → IsMarked apart k) where

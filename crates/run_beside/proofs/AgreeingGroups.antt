@@ -6,11 +6,11 @@ use Rattle.std.proofs.lemmas.List.{get_or_default}
 use Rattle.std.proofs.lemmas.List.Elements.{Contains-get_or}
 use Rattle.ternary.specs.declared.tern.Tern.{Tern}
 use Rattle.ternary.specs.Tern.{join}
-use Rattle.path_meaning.specs.Switching.{state_at}
-use Rattle.path_meaning.specs.Graphs.{GraphData, IsWired, nodes}
-use Rattle.path_meaning.specs.Step.{IsResponse, IsStep}
-use Rattle.path_meaning.proofs.UniqueSteps.{response_is_unique}
-use Rattle.path_meaning.proofs.InputNodes.{input_response}
+use Rattle.switch_paths.specs.Switching.{state_at}
+use Rattle.switch_paths.specs.Graphs.{GraphData, IsWired, nodes}
+use Rattle.switch_paths.specs.Step.{IsResponse, IsStep}
+use Rattle.switch_paths.proofs.UniqueSteps.{response_is_unique}
+use Rattle.switch_paths.proofs.InputNodes.{input_response}
 use Rattle.group_meaning.specs.Groups.{Group}
 use Rattle.group_meaning.proofs.GroupLemmas.{member_storage}
 use Rattle.group_text.specs.Texts.{local_nodes, local_state, local_graph}

@@ -1,10 +1,10 @@
 -- A machine beside a good run stays beside it: a group that responded and reads no change rests.
 use Rattle.std.proofs.Common.{◌≡◌, inl, inr, Bool, true, false, List, sym, subst, ◌∙◌}
 use Rattle.ternary.specs.declared.tern.Tern.{Tern}
-use Rattle.path_meaning.specs.Switching.{state_at}
-use Rattle.path_meaning.specs.Graphs.{GraphData}
-use Rattle.path_meaning.specs.Step.{IsResponse}
-use Rattle.path_meaning.proofs.UniqueSteps.{response_is_unique}
+use Rattle.switch_paths.specs.Switching.{state_at}
+use Rattle.switch_paths.specs.Graphs.{GraphData}
+use Rattle.switch_paths.specs.Step.{IsResponse}
+use Rattle.switch_paths.proofs.UniqueSteps.{response_is_unique}
 use Rattle.group_meaning.specs.Groups.{Group, IsGroup}
 use Rattle.group_meaning.proofs.GroupLemmas.{member_storage}
 use Rattle.group_rest.specs.Rest.{Responded, ReadsNoChange}

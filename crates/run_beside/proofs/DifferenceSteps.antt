@@ -3,12 +3,12 @@
 use Rattle.std.proofs.Common.{◌≡◌, ℕ, ◌<◌, inl, inr, Bool, true, false, List, length, refl, sym, ap, subst, ◌∙◌, arith}
 use Rattle.ternary.specs.declared.tern.Tern.{Tern}
 use Rattle.ternary.specs.Tern.{join}
-use Rattle.path_meaning.specs.Switching.{state_at}
-use Rattle.path_meaning.specs.Graphs.{GraphData, IsWired, nodes}
-use Rattle.path_meaning.specs.Step.{IsResponse}
-use Rattle.path_meaning.proofs.UniqueSteps.{response_is_unique}
-use Rattle.path_meaning.proofs.ExistingSteps.{exists}
-use Rattle.path_meaning.proofs.InputNodes.{input_response}
+use Rattle.switch_paths.specs.Switching.{state_at}
+use Rattle.switch_paths.specs.Graphs.{GraphData, IsWired, nodes}
+use Rattle.switch_paths.specs.Step.{IsResponse}
+use Rattle.switch_paths.proofs.UniqueSteps.{response_is_unique}
+use Rattle.switch_paths.proofs.ExistingSteps.{exists}
+use Rattle.switch_paths.proofs.InputNodes.{input_response}
 use Rattle.part_words.specs.Noting.{after}
 use Rattle.group_meaning.proofs.GroupLemmas.{member_storage}
 use Rattle.machine_parts.proofs.CaseLemmas.{after-same}

@@ -3,7 +3,7 @@
 use Rattle.std.proofs.Common.{◌≡◌, ◌≢◌, ℕ, inl, inr, ◌⊎◌, false, List, ◌++◌, Option, Some, None, refl, sym, subst, ◌∙◌}
 use Rattle.std.specs.Prelude.{Contains, Bool, slice_index_or}
 use Rattle.std.proofs.lemmas.List.Elements.{Contains-append_left, Contains-append_right}
-use Rattle.path_meaning.specs.Switching.{state_at}
+use Rattle.switch_paths.specs.Switching.{state_at}
 use Rattle.part_words.specs.declared.change.Change.{Change}
 use Rattle.machine_parts.specs.Marking.{IsMarked}
 use Rattle.machine_parts.proofs.CaseLemmas.{true_or_not}

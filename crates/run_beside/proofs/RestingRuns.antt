@@ -2,11 +2,11 @@
 -- these; so what a phase ends with is what any further replacements lead to.
 use Rattle.std.proofs.Common.{◌≡◌, ℕ, zero, suc, ◌+◌, ◌≤◌, inl, inr, List, refl, sym, subst, arith}
 use Rattle.ternary.specs.declared.tern.Tern.{Tern}
-use Rattle.path_meaning.specs.Graphs.{GraphData}
-use Rattle.path_meaning.specs.Step.{IsStep}
-use Rattle.oscillation_x.specs.Settling.{Stepping, IsJoinStep, Joining}
-use Rattle.oscillation_x.proofs.SettlingLemmas.{Joining-steady}
-use Rattle.oscillation_x.proofs.UniqueSettling.{JoinStep-unique}
+use Rattle.switch_paths.specs.Graphs.{GraphData}
+use Rattle.switch_paths.specs.Step.{IsStep}
+use Rattle.settling.specs.Settling.{Stepping, IsJoinStep, Joining}
+use Rattle.settling.proofs.SettlingLemmas.{Joining-steady}
+use Rattle.settling.proofs.UniqueSettling.{JoinStep-unique}
 use Rattle.run_beside.specs.Replacing.{Replaces, RestingStatesStay, SettledStatesStay}
 
 -- a state at rest is its own joining step

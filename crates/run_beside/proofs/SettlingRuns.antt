@@ -1,13 +1,13 @@
 -- Replacements that end in a state which the next one leaves are a settling: those that change nothing are left out.
 use Rattle.std.proofs.Common.{◌≡◌, ◌≢◌, ℕ, zero, suc, ◌+◌, ◌-◌, ◌<◌, ◌≤◌, ◌↔◌, inl, inr, ◌⊎◌, Bool, true, false, IsTrue, List, length, refl, sym, ap, subst, ◌∙◌, arith, rules}
 use Rattle.ternary.specs.declared.tern.Tern.{Tern}
-use Rattle.path_meaning.specs.Switching.{state_at}
-use Rattle.path_meaning.specs.Graphs.{GraphData, nodes}
-use Rattle.path_meaning.specs.Step.{IsStep}
-use Rattle.path_meaning.proofs.UniqueSteps.{unique}
-use Rattle.oscillation_x.specs.Settling.{Stepping, IsJoinStep, Joining}
-use Rattle.oscillation_x.proofs.SettlingLemmas.{Joining-steady}
-use Rattle.oscillation_x.proofs.KnownStates.{same_or_somewhere}
+use Rattle.switch_paths.specs.Switching.{state_at}
+use Rattle.switch_paths.specs.Graphs.{GraphData, nodes}
+use Rattle.switch_paths.specs.Step.{IsStep}
+use Rattle.switch_paths.proofs.UniqueSteps.{unique}
+use Rattle.settling.specs.Settling.{Stepping, IsJoinStep, Joining}
+use Rattle.settling.proofs.SettlingLemmas.{Joining-steady}
+use Rattle.settling.proofs.KnownStates.{same_or_somewhere}
 use Rattle.run_beside.specs.Replacing.{Replaces, IsAtEnd, ReplacedStatesSettle}
 use Rattle.run_beside.proofs.RestingRuns.{joining_ends}
 

@@ -3,10 +3,10 @@
 use Rattle.std.specs.Prelude.{◌≡◌, ◌≢◌, ℕ, ◌<◌, ◌↔◌, ◌⊎◌, Bool, true, false, List, length, Contains}
 use Rattle.ternary.specs.declared.tern.Tern.{Tern}
 use Rattle.strength_order.specs.declared.TheConstants.{INPUT_LEVEL}
-use Rattle.path_meaning.specs.Switching.{state_at}
-use Rattle.path_meaning.specs.Graphs.{GraphData, IsWired, nodes, level_of}
-use Rattle.path_meaning.specs.Step.{IsResponse, IsStep}
-use Rattle.oscillation_x.specs.Settling.{IsJoinStep}
+use Rattle.switch_paths.specs.Switching.{state_at}
+use Rattle.switch_paths.specs.Graphs.{GraphData, IsWired, nodes, level_of}
+use Rattle.switch_paths.specs.Step.{IsResponse, IsStep}
+use Rattle.settling.specs.Settling.{IsJoinStep}
 use Rattle.part_words.specs.Noting.{after}
 use Rattle.group_meaning.specs.Groups.{Group}
 use Rattle.group_rest.specs.Rest.{Reads}

@@ -1,8 +1,8 @@
 -- What a machine keeps that runs beside a good run: each group of the fault's graph rests, is marked, or follows the good run.
 use Rattle.std.specs.Prelude.{◌≡◌, ℕ, ◌⊎◌, Bool, true, false, List, Contains}
 use Rattle.ternary.specs.declared.tern.Tern.{Tern}
-use Rattle.path_meaning.specs.Switching.{state_at}
-use Rattle.path_meaning.specs.Graphs.{GraphData, IsWired}
+use Rattle.switch_paths.specs.Switching.{state_at}
+use Rattle.switch_paths.specs.Graphs.{GraphData, IsWired}
 use Rattle.group_meaning.specs.Groups.{Group, IsGroup}
 use Rattle.group_rest.specs.Rest.{Rests, ReadsNoChange}
 use Rattle.group_rest.specs.Alike.{IsAlike}

@@ -1,9 +1,9 @@
 -- Replacements beyond the end of a phase: two runs may take as many as the longer one wants.
 use Rattle.std.specs.Prelude.{◌≡◌, ℕ, zero, suc, ◌+◌, ◌-◌, ◌≤◌, Bool, not, nat_lt, List, length}
 use Rattle.ternary.specs.declared.tern.Tern.{Tern}
-use Rattle.path_meaning.specs.Graphs.{GraphData, nodes}
-use Rattle.path_meaning.specs.Step.{IsStep}
-use Rattle.oscillation_x.specs.Settling.{Settles, IsJoinStep}
+use Rattle.switch_paths.specs.Graphs.{GraphData, nodes}
+use Rattle.switch_paths.specs.Step.{IsStep}
+use Rattle.settling.specs.Settling.{Settles, IsJoinStep}
 use Rattle.run_beside.specs.Agreeing.{IsMove}
 
 -- so many replacements lead from one state to another: plain ones while some are left, then joining ones

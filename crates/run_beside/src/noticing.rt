@@ -1,7 +1,7 @@
 //! Which parts are apart after some changes, and which of them may move in the next step.
 ghost use Rattle.std.specs.Prelude.{◌≡◌, ◌≢◌, ℕ, ◌<◌, Contains, Some, length};
 ghost use Rattle.std.specs.Bool.{OnTrue, OnFalse};
-ghost use Rattle.path_meaning.specs.Switching.{state_at};
+ghost use Rattle.switch_paths.specs.Switching.{state_at};
 ghost use Rattle.part_words.specs.declared.change.Change.{Change};
 ghost use Rattle.machine_parts.specs.Words.{readers_of};
 ghost use Rattle.run_beside.specs.Words.{IsConcerned, ConcernsDiffering, Notices, NoticesChanges};

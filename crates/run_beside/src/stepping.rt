@@ -4,15 +4,15 @@ ghost use Rattle.std.specs.Bool.{OnTrue, OnFalse};
 ghost use Rattle.part_words.specs.declared.change.Change.{Change};
 ghost use Rattle.machine_parts.specs.Words.{AreAgreed, AreOwners, IsMarked, IsRunnable, IsTaken, instructions_of, marked_sum};
 ghost use Rattle.part_steps.specs.Dense.{AreDense};
-ghost use Rattle.part_steps.specs.Desks.{rooms};
+ghost use Rattle.part_steps.specs.Workspaces.{rooms};
 ghost use Rattle.wide_groups.specs.Awake.{HoldsWide, IsWorked};
 ghost use Rattle.wide_groups.specs.Moving.{RetouchesIn};
 ghost use Rattle.run_beside.specs.Words.{KeepsApart, MovesBeside, RemarksBeside};
 
 use crate::following::{follow, write_all};
 use crate::noticing::notice;
-use machine_parts::HeldPart;
-use part_steps::{Agenda, DenseParts, Desk, ReaderLists, evaluate_all, is_any, mark_again};
+use machine_parts::MachinePart;
+use part_steps::{Agenda, DenseParts, ReaderLists, Workspace, evaluate_all, is_any, mark_again};
 use part_words::Change;
 use std::sync::ledger::Ledger;
 use ternary::{Steps, Tern};
@@ -31,7 +31,7 @@ use wide_groups::{calm, evaluate_awake, touched_is_listed};
 pub fn advance_beside<L: Ledger>(
     joining: bool,
     changes: &[Change],
-    parts: &[HeldPart],
+    parts: &[MachinePart],
     dense: &DenseParts,
     owners: &[Option<usize>],
     readers: &ReaderLists,
@@ -39,14 +39,14 @@ pub fn advance_beside<L: Ledger>(
     bad: &mut [Tern],
     apart: &mut NodeSet,
     agenda: &mut Agenda,
-    desk: &mut Desk,
+    workspace: &mut Workspace,
     wide: &mut Option<Wide>,
     noted: &mut Vec<Change>,
     steps: &mut Steps<L>,
 ) -> bool
     requires dense { AreDense parts.now dense.now }
     requires wide { HoldsWide parts.now bad.old (vec_capacity noted.old) wide.old }
-    requires runnable { IsRunnable parts.now agenda.old.marks agenda.old.waiting (length bad.old) readers.now (rooms desk.old) }
+    requires runnable { IsRunnable parts.now agenda.old.marks agenda.old.waiting (length bad.old) readers.now (rooms workspace.old) }
     requires owners { AreOwners parts.now (length bad.old) owners.now }
     requires counted { length good.old ≡ length bad.old }
     requires inside { (change : Change) → Contains changes.now change → change.node < length good.old }
@@ -62,25 +62,33 @@ pub fn advance_beside<L: Ledger>(
     ensures kept { KeepsApart owners.now readers.now apart.new.inside good.new bad.new }
     ensures marks { RemarksBeside joining parts.now agenda.old.marks bad.old bad.new apart.old.inside apart.new.inside agenda.new.marks }
     ensures waiting { agenda.new.waiting ≡ agenda.old.waiting }
-    ensures rooms { rooms desk.new ≡ rooms desk.old }
+    ensures rooms { rooms workspace.new ≡ rooms workspace.old }
     ensures steps { IsWorked (marked_sum instructions_of parts.now agenda.old.marks) wide.old bad.old steps.old steps.new }
     ensures changed { OnTrue result (bad.new ≢ bad.old) }
     ensures same { OnFalse result (changes.now ≡ [] → bad.new ≡ bad.old) }
 {
     agenda.waiting_parts_are_marked();
-    desk.changes.clear();
-    desk.done.clear();
-    evaluate_all(joining, parts, dense, bad, agenda, desk, steps);
+    workspace.changes.clear();
+    workspace.done.clear();
+    evaluate_all(joining, parts, dense, bad, agenda, workspace, steps);
     evaluate_awake(joining, wide, bad, noted, steps);
-    mark_again(joining, &desk.done, agenda);
+    mark_again(joining, &workspace.done, agenda);
     touched_is_listed(wide);
     calm(joining, wide);
     follow(changes, owners, apart, good, bad, wide);
-    write_all(&desk.changes, bad, wide);
+    write_all(&workspace.changes, bad, wide);
     write_all(noted, bad, wide);
     touched_is_listed(wide);
     notice(changes, owners, readers, good, bad, apart, agenda);
-    notice(&desk.changes, owners, readers, good, bad, apart, agenda);
+    notice(
+        &workspace.changes,
+        owners,
+        readers,
+        good,
+        bad,
+        apart,
+        agenda,
+    );
     notice(noted, owners, readers, good, bad, apart, agenda);
-    is_any(&desk.changes, noted)
+    is_any(&workspace.changes, noted)
 }

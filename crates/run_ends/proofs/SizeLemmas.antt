@@ -2,12 +2,12 @@
 use Rattle.std.proofs.Common.{◌≡◌, ℕ, ◌<◌, ◌⊎◌, inl, inr, Bool, true, false, List, [], Option, None, Some, Result, slice_get, unwrap_or, refl, sym, ap, subst, ◌∙◌}
 use Rattle.std.specs.Prelude.{if◌then◌else◌}
 use Rattle.std.proofs.lemmas.Option.{slice_get_within, get_or_from_slice_get}
-use Rattle.path_meaning.specs.Graphs.{GraphData, nodes}
+use Rattle.switch_paths.specs.Graphs.{GraphData, nodes}
 use Rattle.netlist.specs.Names.{name_at}
 use Rattle.netlist.specs.Circuits.{CircuitData}
-use Rattle.wave_print.specs.declared.faults.FaultPlace.{FaultPlace}
-use Rattle.wave_print.specs.declared.faults.FaultCode.{FaultCode}
-use Rattle.wave_print.specs.declared.faults.FaultCode.TheVariants.{G1GroupNodes, G2GroupSwitches}
+use Rattle.printed_lines.specs.declared.faults.FaultPlace.{FaultPlace}
+use Rattle.printed_lines.specs.declared.faults.FaultCode.{FaultCode}
+use Rattle.printed_lines.specs.declared.faults.FaultCode.TheVariants.{G1GroupNodes, G2GroupSwitches}
 use Rattle.group_meaning.specs.Groups.{id_of}
 use Rattle.group_meaning.proofs.UniqueGroups.{unique}
 use Rattle.group_text.specs.declared.text.TextFault.{TextFault}

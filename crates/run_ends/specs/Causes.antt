@@ -3,10 +3,10 @@ use Rattle.std.specs.Prelude.{ℕ, List, [], Option, Some, None}
 use Rattle.netlist.specs.Circuits.{CircuitData, called}
 use Rattle.circuit_texts.specs.declared.texts.BuildFault.{BuildFault}
 use Rattle.circuit_texts.specs.declared.texts.BuildFault.TheVariants as build
-use Rattle.wave_print.specs.Faults.{fault_line_of}
-use Rattle.wave_print.specs.declared.faults.FaultPlace.{FaultPlace}
-use Rattle.wave_print.specs.declared.faults.FaultCode.{FaultCode}
-use Rattle.wave_print.specs.declared.faults.FaultCode.TheVariants as code
+use Rattle.printed_lines.specs.Faults.{fault_line_of}
+use Rattle.printed_lines.specs.declared.faults.FaultPlace.{FaultPlace}
+use Rattle.printed_lines.specs.declared.faults.FaultCode.{FaultCode}
+use Rattle.printed_lines.specs.declared.faults.FaultCode.TheVariants as code
 
 -- why a line is refused: a code, and for a group that is too large the name of its least node and the count of what it has too many of
 pub record Cause : Type 0 where

@@ -2,8 +2,8 @@
 -- so each count rises by one at most, where the run stopped by it.
 use Rattle.std.specs.Prelude.{◌≡◌, ℕ, ◌⊎◌, Result, Ok, Err}
 use Rattle.ternary.specs.Counts.{raised}
-use Rattle.port_edge.specs.declared.ports.PortFault.{PortFault}
-use Rattle.port_edge.specs.declared.ports.PortFault.TheVariants.{Failed, NoMemory}
+use Rattle.ports.specs.declared.ports.PortFault.{PortFault}
+use Rattle.ports.specs.declared.ports.PortFault.TheVariants.{Failed, NoMemory}
 use Rattle.run_ends.specs.declared.stop.Stop.{Stop}
 use Rattle.run_ends.specs.declared.stop.Stop.TheVariants.{Read, Write, Memory}
 

@@ -4,7 +4,7 @@ ghost use Rattle.std.specs.Prelude.{◌≡◌};
 
 use help_texts::cure;
 use itoa::Buffer;
-use port_edge::{NotedFile, Sink};
+use ports::{NotedFile, Sink};
 use std::alloc::Global;
 use ternary::NoMemory;
 

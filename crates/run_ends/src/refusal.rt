@@ -10,9 +10,9 @@ use crate::notes::note_cure;
 use crate::stop::{End, Stop};
 use circuit_texts::BuildFault;
 use netlist::Circuit;
-use port_edge::{NotedFile, Sink, send};
+use ports::{NotedFile, Sink, send};
+use printed_lines::{FAULT_LINE_ROOM, FaultCode, FaultPlace, LineBuf, fault_line};
 use std::alloc::Global;
-use wave_print::{FAULT_LINE_ROOM, FaultCode, FaultPlace, LineBuf, fault_line};
 
 /// Writes the line of a refusal, and ends the run so. The cure is noted besides, with the word that it is about.
 pub fn refuse<S: Sink>(

@@ -1,7 +1,7 @@
 ghost use Rattle.std.specs.Prelude.{◌≡◌};
 ghost use Rattle.run_ends.specs.Stops.{read_stop_of, write_stop_of};
 
-use port_edge::PortFault;
+use ports::PortFault;
 use ternary::NoMemory;
 
 /// How a run ends that meets no fault and no lack of memory.

@@ -4,8 +4,8 @@ use Rattle.std.specs.List.{before_last, after_last}
 use Rattle.std.specs.Option.{option_and_then, option_map_or}
 use Rattle.ternary.specs.declared.tern.Tern.{Tern}
 use Rattle.ternary.specs.Tern.{of_letter}
-use Rattle.path_meaning.specs.declared.switching.SwitchKind.{SwitchKind}
-use Rattle.path_meaning.specs.declared.switching.SwitchKind.TheVariants.{NChan, PChan, Always}
+use Rattle.switch_paths.specs.declared.switching.SwitchKind.{SwitchKind}
+use Rattle.switch_paths.specs.declared.switching.SwitchKind.TheVariants.{NChan, PChan, Always}
 use Rattle.line_words.specs.Decimals.{decimal_of}
 use Rattle.line_words.specs.Words.{is_word}
 use Rattle.vector_values.specs.Values as wide

@@ -1,5 +1,5 @@
 use crate::lists::{ClockList, Name, NameList, ValueList};
-use path_meaning::SwitchKind;
+use switch_paths::SwitchKind;
 use ternary::NoMemory;
 use thiserror::Error;
 

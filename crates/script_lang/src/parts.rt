@@ -6,8 +6,8 @@ use crate::MOST_TIMES;
 use crate::lists::{Name, StateList};
 use crate::value::{self, Value};
 use line_words::decimal;
-use path_meaning::SwitchKind;
 use std::alloc::Global;
+use switch_paths::SwitchKind;
 use ternary::{NoMemory, Tern};
 
 /// The name and the value of a word `name=value`, or None if the word is no assignment.

@@ -1,7 +1,7 @@
 -- What a printer that numbers no columns has written of a script that was told to it: the script's answer, or a part of it.
 use Rattle.std.proofs.Common.{◌≡◌, ℕ, inl, inr, false, List, Option, Result, Ok, Err, refl, ap, subst, ◌∙◌}
 use Rattle.std.specs.Io.KnownBytes.{append_known}
-use Rattle.port_edge.specs.Sending.{WritesPart}
+use Rattle.ports.specs.Sending.{WritesPart}
 use Rattle.group_text.specs.Texts.{GroupTextData}
 use Rattle.told_lines.specs.Printing.{Page, print, PrintsPart}
 use Rattle.told_lines.proofs.PrintingLemmas.{plain-all, plain-front}

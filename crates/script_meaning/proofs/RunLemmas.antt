@@ -14,8 +14,8 @@ use Rattle.told_lines.specs.Lines.{Line, Told}
 use Rattle.told_lines.specs.Hearing.{hear_all, HearsFront, of_column}
 use Rattle.told_lines.proofs.HearingLemmas.{hear_all-append, of_column-append, so_far-front}
 use Rattle.session_meaning.specs.Outcomes.{Keeps}
-use Rattle.wave_print.specs.declared.faults.FaultCode.{FaultCode}
-use Rattle.wave_print.specs.declared.faults.FaultCode.TheVariants.{S11TooLong}
+use Rattle.printed_lines.specs.declared.faults.FaultCode.{FaultCode}
+use Rattle.printed_lines.specs.declared.faults.FaultCode.TheVariants.{S11TooLong}
 use Rattle.run_ends.specs.declared.stop.Stop.{Stop}
 use Rattle.script_meaning.specs.declared.turn.Turn.{Turn}
 use Rattle.script_meaning.specs.declared.turn.Turn.TheVariants.{Accepted, Refused, TooLarge}

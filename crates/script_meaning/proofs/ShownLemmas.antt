@@ -1,7 +1,7 @@
 -- What an onlooker sees of a script: each line adds its steps and phases and the state behind it, and all lines show one list of views.
 use Rattle.std.proofs.Common.{◌≡◌, ℕ, inl, inr, List, [], ◌∷◌, ◌++◌, map, Option, Ok, refl, sym, ap, subst, ◌∙◌, append_assoc, append-nil}
 use Rattle.ternary.specs.declared.tern.Tern.{Tern}
-use Rattle.oscillation_x.specs.Passes.{Pass, View, Passed, Stands, see_pass, see_passes, look_all}
+use Rattle.settling.specs.Passes.{Pass, View, Passed, Stands, see_pass, see_passes, look_all}
 use Rattle.group_text.specs.Texts.{GroupTextData}
 use Rattle.told_lines.specs.Lines.{Line, Told}
 use Rattle.session_meaning.specs.Sessions.{SessionData}

@@ -11,7 +11,7 @@ use Rattle.session_meaning.specs.declared.fault.ApplyFault.{ApplyFault}
 use Rattle.session_meaning.specs.declared.fault.ApplyFault.TheVariants.{Refused, GroupNodes, GroupSwitches, WriteFault, NoMemory}
 use Rattle.session_meaning.specs.Sessions.{SessionData}
 use Rattle.session_meaning.specs.Outcomes.{Obeys}
-use Rattle.wave_print.specs.declared.faults.FaultCode.{FaultCode}
+use Rattle.printed_lines.specs.declared.faults.FaultCode.{FaultCode}
 use Rattle.run_ends.specs.Causes.{plain_cause}
 use Rattle.script_meaning.specs.Codes.{script_code}
 use Rattle.script_meaning.specs.Runs.{Reading, Asks, IsRefused, unread, refused}

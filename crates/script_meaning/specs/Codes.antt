@@ -4,8 +4,8 @@ use Rattle.script_lang.specs.declared.command.ScriptFault.{ScriptFault}
 use Rattle.script_lang.specs.declared.command.ScriptFault.TheVariants as script
 use Rattle.session_meaning.specs.declared.fault.Refusal.{Refusal}
 use Rattle.session_meaning.specs.declared.fault.Refusal.TheVariants as refusal
-use Rattle.wave_print.specs.declared.faults.FaultCode.{FaultCode}
-use Rattle.wave_print.specs.declared.faults.FaultCode.TheVariants as code
+use Rattle.printed_lines.specs.declared.faults.FaultCode.{FaultCode}
+use Rattle.printed_lines.specs.declared.faults.FaultCode.TheVariants as code
 
 -- of a line of a script that is no command; lack of memory has none
 abbrev pub script_code : ScriptFault → Option FaultCode

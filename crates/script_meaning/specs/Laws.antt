@@ -1,6 +1,6 @@
 -- Laws of scripts: what comes of one is determined.
 use Rattle.std.specs.Prelude.{◌≡◌, ℕ, List, Option}
-use Rattle.oscillation_x.specs.Passes.{View}
+use Rattle.settling.specs.Passes.{View}
 use Rattle.session_meaning.specs.Sessions.{SessionData}
 use Rattle.run_ends.specs.Answers.{Answer}
 use Rattle.script_meaning.specs.Runs.{Reading, Outcome, Runs, IsScriptAnswer}

@@ -17,9 +17,9 @@ use Rattle.session_meaning.specs.Refusals.{refusal_of}
 use Rattle.session_meaning.specs.Preparing.{builds}
 use Rattle.told_lines.specs.Lines.{Line, Refused, text_of}
 use Rattle.session_meaning.specs.Outcomes.{Performs}
-use Rattle.wave_print.specs.declared.faults.FaultPlace.TheVariants.{Script}
-use Rattle.wave_print.specs.declared.faults.FaultCode.{FaultCode}
-use Rattle.wave_print.specs.declared.faults.FaultCode.TheVariants.{S11TooLong}
+use Rattle.printed_lines.specs.declared.faults.FaultPlace.TheVariants.{Script}
+use Rattle.printed_lines.specs.declared.faults.FaultCode.{FaultCode}
+use Rattle.printed_lines.specs.declared.faults.FaultCode.TheVariants.{S11TooLong}
 use Rattle.run_ends.specs.declared.status.Status.{Status}
 use Rattle.run_ends.specs.declared.status.Status.TheVariants.{Done, Mismatch, ScriptRefused}
 use Rattle.run_ends.specs.Answers.{Answer}

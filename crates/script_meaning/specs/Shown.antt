@@ -1,7 +1,7 @@
 -- What an onlooker sees of a script: the steps and phases of its lines, and the states behind these.
 use Rattle.std.specs.Prelude.{◌≡◌, ℕ, List, [], ◌∷◌, ◌++◌, map, Option}
 use Rattle.ternary.specs.declared.tern.Tern.{Tern}
-use Rattle.oscillation_x.specs.Passes.{Pass, View, Passed, Stands, see_passes, look_all}
+use Rattle.settling.specs.Passes.{Pass, View, Passed, Stands, see_passes, look_all}
 use Rattle.group_text.specs.Texts.{GroupTextData}
 use Rattle.script_lang.specs.declared.command.Command.{Command}
 use Rattle.session_meaning.specs.Sessions.{SessionData}

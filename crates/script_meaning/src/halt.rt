@@ -1,5 +1,5 @@
 use circuit_texts::BuildFault;
-use wave_print::FaultCode;
+use printed_lines::FaultCode;
 
 /// How the lines of a script ended.
 #[derive(Clone, Copy, PartialEq, Eq)]

@@ -1,5 +1,5 @@
 use circuit_texts::BuildFault;
-use wave_print::FaultCode;
+use printed_lines::FaultCode;
 
 /// What became of a line of the script.
 #[derive(Clone, Copy, PartialEq, Eq)]

@@ -1,8 +1,8 @@
 -- What was told of the notes at the end of a script, or of the refusal that ended it, is told of the answer to `cover`.
 use Rattle.std.proofs.Common.{◌≡◌, ℕ, List, [], ◌∷◌, Option, None, Result, refl, sym, ap, subst, ◌∙◌}
-use Rattle.oscillation_x.specs.Passing.{see_all}
-use Rattle.oscillation_x.specs.Passes.{View, Passed, Stands, look_all, states_of}
-use Rattle.oscillation_x.proofs.PassingLemmas.{see_all-append}
+use Rattle.settling.specs.Passing.{see_all}
+use Rattle.settling.specs.Passes.{View, Passed, Stands, look_all, states_of}
+use Rattle.settling.proofs.PassingLemmas.{see_all-append}
 use Rattle.state_cover.specs.Cover.{had_after}
 use Rattle.state_cover.specs.Laws.{TellStates}
 use Rattle.state_cover.proofs.LawLemmas.{notes_tell}

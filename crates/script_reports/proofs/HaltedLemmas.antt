@@ -2,12 +2,12 @@
 -- that has this at its end, whichever one it is.
 use Rattle.std.proofs.Common.{ℕ, inl, inr, List, [], ◌∷◌, Option, Some, Result, Ok, Err, refl, sym, ap, subst, ◌∙◌}
 use Rattle.std.specs.Io.KnownBytes.{append_known}
-use Rattle.port_edge.specs.Sending.{WritesPart}
+use Rattle.ports.specs.Sending.{WritesPart}
 use Rattle.line_words.specs.Files.{lines_in, cut_line}
 use Rattle.netlist.specs.Circuits.{CircuitData}
 use Rattle.group_text.specs.Texts.{GroupTextData}
 use Rattle.circuit_texts.specs.declared.texts.BuildFault.{BuildFault}
-use Rattle.wave_print.specs.declared.faults.FaultPlace.TheVariants.{Script}
+use Rattle.printed_lines.specs.declared.faults.FaultPlace.TheVariants.{Script}
 use Rattle.told_lines.specs.Hearing.{of_column}
 use Rattle.told_lines.specs.Printing.{Page, print, PrintsPart}
 use Rattle.told_lines.proofs.PrintingLemmas.{written-all, written-front, refusal-printed}

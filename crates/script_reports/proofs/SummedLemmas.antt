@@ -1,12 +1,12 @@
 -- What was counted of the lines of a script is told by their summary, and the refusal that ended them by its line.
 use Rattle.std.proofs.Common.{◌≡◌, ℕ, inl, inr, List, ◌++◌, Option, None, Some, Result, Ok, Err, refl, sym, ap, subst, ◌∙◌}
 use Rattle.std.specs.Io.KnownBytes.{append_known}
-use Rattle.port_edge.specs.Sending.{WritesPart}
+use Rattle.ports.specs.Sending.{WritesPart}
 use Rattle.group_text.specs.Texts.{GroupTextData}
 use Rattle.circuit_texts.specs.declared.texts.BuildFault.{BuildFault}
-use Rattle.wave_print.specs.declared.faults.FaultPlace.TheVariants.{Script}
-use Rattle.wave_print.specs.declared.lines.Summary.{Summary}
-use Rattle.wave_print.specs.Lines.{summary_line_of}
+use Rattle.printed_lines.specs.declared.faults.FaultPlace.TheVariants.{Script}
+use Rattle.printed_lines.specs.declared.lines.Summary.{Summary}
+use Rattle.printed_lines.specs.Lines.{summary_line_of}
 use Rattle.told_lines.specs.Hearing.{hear_all, of_column}
 use Rattle.told_lines.specs.Sums.{counted, summary_of}
 use Rattle.told_lines.proofs.SumLemmas.{sums_totals}

@@ -1,7 +1,7 @@
 -- The run of a script is summed up in one way, and covers one; of the reasons of a node the status and the texts that are analysed are determined.
 use Rattle.std.proofs.Common.{◌≡◌, ℕ, List, ◌∷◌, Option, None, Some, sym, ap, subst, ◌∙◌, count_by}
 use Rattle.std.specs.Prelude.{is_some}
-use Rattle.path_meaning.specs.Graphs.{nodes}
+use Rattle.switch_paths.specs.Graphs.{nodes}
 use Rattle.line_words.specs.Files.{lines_in, cut_line}
 use Rattle.netlist.specs.Circuits.{CircuitData}
 use Rattle.netlist.specs.Names.{node_of}
@@ -9,7 +9,7 @@ use Rattle.sim_read.specs.Meaning.{netlist_of}
 use Rattle.group_text.specs.Texts.{GroupTextData}
 use Rattle.net_gen.specs.declared.families.GenPart.TheVariants as part
 use Rattle.command_line.specs.Samples.{Sample, text_of}
-use Rattle.oscillation_x.specs.Passes.{View, states_of}
+use Rattle.settling.specs.Passes.{View, states_of}
 use Rattle.state_cover.specs.Laws.{TellStates}
 use Rattle.state_cover.proofs.LawLemmas.{told_once}
 use Rattle.state_cover.specs.Lines.{cover_text}

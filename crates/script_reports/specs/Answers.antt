@@ -1,6 +1,6 @@
 -- The answers that sum up the run of a script, from the start in a circuit.
 use Rattle.std.specs.Prelude.{ℕ, List, count_by, is_some}
-use Rattle.path_meaning.specs.Graphs.{nodes}
+use Rattle.switch_paths.specs.Graphs.{nodes}
 use Rattle.line_words.specs.Files.{lines_in, cut_line}
 use Rattle.netlist.specs.Circuits.{CircuitData}
 use Rattle.sim_read.specs.Meaning.{netlist_of}

@@ -1,7 +1,7 @@
 -- What is answered of a script: which of 0 and 1 each node never had while it ran.
 use Rattle.std.specs.Prelude.{◌≡◌, ℕ, List, ◌∷◌, length, Option, None, Some}
-use Rattle.path_meaning.specs.Graphs.{nodes}
-use Rattle.oscillation_x.specs.Passes.{View, states_of}
+use Rattle.switch_paths.specs.Graphs.{nodes}
+use Rattle.settling.specs.Passes.{View, states_of}
 use Rattle.state_cover.specs.declared.had.Had.{Had}
 use Rattle.state_cover.specs.Laws.{TellStates}
 use Rattle.state_cover.specs.Lines.{cover_text}

@@ -1,6 +1,6 @@
 -- Inside the program: telling the cover where the lines of a script ended, or the refusal that ended them.
 use Rattle.std.specs.Prelude.{◌≡◌, List, length}
-use Rattle.path_meaning.specs.Graphs.{nodes}
+use Rattle.switch_paths.specs.Graphs.{nodes}
 use Rattle.state_cover.specs.declared.had.Had.{Had}
 use Rattle.state_cover.specs.Lines.{cover_text}
 use Rattle.session_meaning.specs.Sessions.{SessionData}

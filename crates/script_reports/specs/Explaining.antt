@@ -1,10 +1,10 @@
 -- Inside the program: explaining a node where the lines of a script ended, or telling the refusal that ended them.
 use Rattle.std.specs.Prelude.{◌≡◌, ℕ, List}
-use Rattle.path_meaning.specs.Graphs.{GraphData, nodes}
+use Rattle.switch_paths.specs.Graphs.{GraphData, nodes}
 use Rattle.group_meaning.specs.Groups.{AreGroups}
 use Rattle.channel_groups.specs.Grouping.{GroupsData}
 use Rattle.netlist.specs.Names.{node_of}
-use Rattle.wave_print.specs.declared.faults.FaultPlace.TheVariants.{Script}
+use Rattle.printed_lines.specs.declared.faults.FaultPlace.TheVariants.{Script}
 use Rattle.circuit_texts.specs.Sizes.{TellsRefused}
 use Rattle.told_lines.specs.Lines.{Told}
 use Rattle.session_meaning.specs.Sessions.{SessionData}

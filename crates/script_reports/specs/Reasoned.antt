@@ -2,15 +2,15 @@
 -- After Bryant, "Boolean Analysis of MOS Circuits", 1987.
 use Rattle.std.specs.Prelude.{◌≡◌, ℕ, Bool, true, false, List, ◌++◌, Option, None, Some}
 use Rattle.ternary.specs.declared.tern.Tern.{Tern}
-use Rattle.path_meaning.specs.Spread.{rail_of}
-use Rattle.path_meaning.specs.declared.walks.Walk.{Walk}
+use Rattle.switch_paths.specs.Spread.{rail_of}
+use Rattle.switch_paths.specs.declared.walks.Walk.{Walk}
 use Rattle.line_words.specs.Files.{lines_in, cut_line}
 use Rattle.netlist.specs.Circuits.{CircuitData}
 use Rattle.netlist.specs.Names.{node_of}
 use Rattle.why_path.specs.Reasons.{Explains}
 use Rattle.why_path.specs.Lines.{IsReasonLine, no_reason_line_of}
-use Rattle.wave_print.specs.declared.faults.FaultPlace.TheVariants.{Node}
-use Rattle.wave_print.specs.declared.faults.FaultCode.TheVariants.{E1UnknownNode}
+use Rattle.printed_lines.specs.declared.faults.FaultPlace.TheVariants.{Node}
+use Rattle.printed_lines.specs.declared.faults.FaultCode.TheVariants.{E1UnknownNode}
 use Rattle.session_meaning.specs.Sessions.{SessionData, start_of}
 use Rattle.run_ends.specs.declared.status.Status.{Status}
 use Rattle.run_ends.specs.declared.status.Status.TheVariants.{Done, Usage, ScriptRefused}

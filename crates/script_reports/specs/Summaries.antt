@@ -1,7 +1,7 @@
 -- What the waveform lines of a run tell together, and the answer that tells it.
 use Rattle.std.specs.Prelude.{◌≡◌, ℕ, List, [], Option, None, Some}
-use Rattle.wave_print.specs.declared.lines.Summary.{Summary}
-use Rattle.wave_print.specs.Lines.{summary_line_of}
+use Rattle.printed_lines.specs.declared.lines.Summary.{Summary}
+use Rattle.printed_lines.specs.Lines.{summary_line_of}
 use Rattle.told_lines.specs.Lines.{Line}
 use Rattle.told_lines.specs.Sums.{summary_of}
 use Rattle.session_meaning.specs.Sessions.{SessionData}

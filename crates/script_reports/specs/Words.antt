@@ -1,7 +1,7 @@
 -- The words of the clauses, from one place.
 pub use Rattle.netlist.specs.Circuits.{IsCircuit}
 pub use Rattle.netlist.specs.Names.{node_of}
-pub use Rattle.path_meaning.specs.Graphs.{nodes}
+pub use Rattle.switch_paths.specs.Graphs.{nodes}
 pub use Rattle.run_ends.specs.Answers.{plain_answer}
 pub use Rattle.run_ends.specs.Ends.{IsTold, IsToldBy}
 pub use Rattle.run_ends.specs.Stops.{faults_written, IsRefusedOnce}
@@ -17,4 +17,4 @@ pub use Rattle.script_reports.specs.Summaries.{IsBlank, IsSummedUp}
 pub use Rattle.session_meaning.specs.Sessions.{IsReady}
 pub use Rattle.sim_read.specs.Meaning.{netlist_of}
 pub use Rattle.told_lines.specs.Sums.{counted, summary_of}
-pub use Rattle.wave_print.specs.Lines.{summary_line_of}
+pub use Rattle.printed_lines.specs.Lines.{summary_line_of}

@@ -8,7 +8,7 @@ use column_stage::PlainStage;
 use cosmos_session::Session;
 use group_analysis::Analyst;
 use netlist::Circuit;
-use port_edge::Sink;
+use ports::Sink;
 use run_ends::{End, Stop};
 use script_meaning::Halt;
 use state_cover::{Cover, write_cover};

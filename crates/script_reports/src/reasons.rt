@@ -10,14 +10,14 @@ use column_stage::PlainStage;
 use cosmos_session::Session;
 use group_analysis::Analyst;
 use netlist::Circuit;
-use oscillation_x::Blind;
-use port_edge::{Sink, send};
+use ports::{Sink, send};
+use printed_lines::{FaultCode, FaultPlace};
 use run_ends::{End, Stop, refuse};
 use script_meaning::Halt;
+use settling::Blind;
 use std::alloc::Global;
 use ternary::NoMemory;
 use told_lines::Printer;
-use wave_print::{FaultCode, FaultPlace};
 use why_path::{group_reason, reason_line};
 
 /// Runs the lines of a script from the start in a circuit, none of which is written, and explains the node

@@ -1,7 +1,7 @@
 //! What `large` writes: the summary of a sample's run.
 
 ghost use Rattle.std.specs.Prelude.{◌≡◌, ◌≢◌, [], IfOk, IfErr, count_by, is_some};
-ghost use Rattle.path_meaning.specs.Graphs as graphs;
+ghost use Rattle.switch_paths.specs.Graphs as graphs;
 ghost use Rattle.line_words.specs.Files as file;
 ghost use Rattle.script_reports.specs.Words.{counted, faults_written, netlist_of, plain_answer, plain_reading, summary_line_of, summary_of, HaltsAt, IsBlank, IsCircuit, IsReady, IsRefusedOnce, IsSampleSummary, IsSummary, IsSummedUp, IsTold, IsToldBy};
 ghost use Rattle.command_line.specs.Samples as samples;
@@ -14,7 +14,8 @@ use cosmos_session::Session;
 use group_analysis::Analyst;
 use net_gen::{GenPart, generate};
 use netlist::Circuit;
-use port_edge::{Sink, send};
+use ports::{Sink, send};
+use printed_lines::{FaultPlace, LineBuf, SUMMARY_LINE_ROOM, Summary, summary_line};
 use run_ends::{End, Stop, refuse, refuse_size};
 use script_meaning::Halt;
 use script_run::{Plain, obey_lines};
@@ -23,7 +24,6 @@ use std::alloc::Global;
 use table_keys::TableKeys;
 use ternary::Unmade;
 use told_lines::Sums;
-use wave_print::{FaultPlace, LineBuf, SUMMARY_LINE_ROOM, Summary, summary_line};
 
 /// Runs the script of a sample in the circuit of its netlist, and writes the line that sums it up.
 pub fn sum_up<M: PlainStage, S: Sink, A: Analyst>(

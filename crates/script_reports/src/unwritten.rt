@@ -7,11 +7,11 @@ ghost use Rattle.line_words.specs.Files as file;
 use column_stage::PlainStage;
 use cosmos_session::Session;
 use group_analysis::Analyst;
-use oscillation_x::Onlooker;
-use port_edge::Sink;
+use ports::Sink;
 use run_ends::{End, Stop};
 use script_meaning::Halt;
 use script_run::{Plain, obey_seen, refuse_halt};
+use settling::Onlooker;
 use std::alloc::Global;
 use told_lines::{Printer, Silence};
 

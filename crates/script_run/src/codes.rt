@@ -4,8 +4,8 @@ ghost use Rattle.std.specs.Prelude.{◌≡◌};
 ghost use Rattle.script_meaning.specs.Codes as spec;
 
 use cosmos_session::Refusal;
+use printed_lines::FaultCode;
 use script_lang::ScriptFault;
-use wave_print::FaultCode;
 
 /// The code of a line that is no command; lack of memory has none.
 pub fn script_code(fault: ScriptFault) -> Option<FaultCode>

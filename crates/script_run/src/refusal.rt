@@ -7,13 +7,13 @@ ghost use Rattle.script_run.specs.Words.{faults_written, IsCutShort, IsRefusedOn
 use circuit_texts::BuildFault;
 use netlist::Circuit;
 use node_words::Vectors;
-use port_edge::NotedFile;
+use ports::NotedFile;
+use printed_lines::{COLUMN_ROOM, FAULT_LINE_ROOM, FaultCode, FaultPlace};
 use refusal_words::script_word;
 use run_ends::{End, Stop, cure_text};
 use script_meaning::Halt;
 use std::alloc::Global;
 use told_lines::{Line, Lines};
-use wave_print::{COLUMN_ROOM, FAULT_LINE_ROOM, FaultCode, FaultPlace};
 
 /// Tells the line of the refusal at which the lines of a script ended in a circuit, and ends the run so.
 ///

@@ -12,13 +12,13 @@ use column_stage::PlainStage;
 use cosmos_session::{ApplyFault, Session};
 use group_analysis::Analyst;
 use line_words::{Line, cut_line, front, lines};
-use oscillation_x::{Blind, Onlooker};
+use printed_lines::FaultCode;
 use run_ends::{End, Stop};
 use script_lang::Command;
 use script_meaning::{Halt, Turn};
+use settling::{Blind, Onlooker};
 use std::alloc::Global;
 use told_lines::Lines;
-use wave_print::FaultCode;
 
 /// Runs the lines of a script, in order, to the end or to the first that is refused, and tells the line
 /// of its refusal.

@@ -3,8 +3,8 @@ use Rattle.std.proofs.Common.{◌≡◌, ℕ, ◌≤◌, List, sym, subst, ◌�
 use Rattle.std.specs.Prelude.{slice_set}
 use Rattle.std.proofs.lemmas.List.{length-set}
 use Rattle.ternary.specs.declared.tern.Tern.{Tern}
-use Rattle.path_meaning.specs.declared.TheConstants.{RAILS}
-use Rattle.path_meaning.specs.Graphs.{GraphData}
+use Rattle.switch_paths.specs.declared.TheConstants.{RAILS}
+use Rattle.switch_paths.specs.Graphs.{GraphData}
 use Rattle.column_stage.specs.Columns.{IsSoundState}
 use Rattle.session_meaning.proofs.StateLemmas.{sound-set}
 

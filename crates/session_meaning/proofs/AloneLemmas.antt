@@ -3,12 +3,12 @@ use Rattle.std.proofs.Common.{◌≡◌, ℕ, ◌≤◌, true, List, [], ◌∷�
 use Rattle.std.specs.Prelude.{unwrap_or}
 use Rattle.std.proofs.lemmas.List.Elements.{All-nil, All-cons, All-head, All-tail}
 use Rattle.ternary.specs.declared.tern.Tern.{Tern}
-use Rattle.path_meaning.specs.declared.TheConstants.{RAILS}
+use Rattle.switch_paths.specs.declared.TheConstants.{RAILS}
 use Rattle.netlist.specs.Names.{node_of}
 use Rattle.netlist.specs.Circuits.{CircuitData}
 use Rattle.netlist.specs.Edits.{node_named}
 use Rattle.node_values.specs.Givings.{letters_given, states_given, with_state}
-use Rattle.lane_script.specs.Commands.{alone_of}
+use Rattle.column_script.specs.Commands.{alone_of}
 use Rattle.session_meaning.specs.declared.fault.Refusal.{Refusal}
 use Rattle.session_meaning.specs.declared.fault.Refusal.TheVariants.{UnknownNode}
 use Rattle.session_meaning.specs.Refusals.{first_refusal, given_refusal, givings_refusal, or_else, place_refusal, values_refusal}

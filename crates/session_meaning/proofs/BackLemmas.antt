@@ -1,8 +1,8 @@
 -- States that come back: the nodes whose states differ are placed, one after the other.
 use Rattle.std.proofs.Common.{◌≢◌, ℕ, List, [], ◌∷◌, inl, inr, refl, sym, subst}
 use Rattle.ternary.specs.declared.tern.Tern.{Tern}
-use Rattle.path_meaning.specs.Graphs.{GraphData}
-use Rattle.path_meaning.specs.Switching.{state_at}
+use Rattle.switch_paths.specs.Graphs.{GraphData}
+use Rattle.switch_paths.specs.Switching.{state_at}
 use Rattle.column_stage.specs.Acts.{Act, Placed, LeadsBy}
 use Rattle.column_stage.proofs.LeadingLemmas.{leads_by_both, leads_by_one}
 use Rattle.session_meaning.specs.Stages.{GivesOther, PlacesOther}

@@ -2,8 +2,8 @@
 use Rattle.std.proofs.Common.{◌≡◌, ℕ, ◌<◌, ◌≤◌, ◌⊎◌, inl, inr, List, length, Option, Result, Ok, Err, refl, sym, ap, subst, ◌∙◌}
 use Rattle.ternary.specs.declared.tern.Tern.{Tern}
 use Rattle.ternary.specs.Counts.{raised}
-use Rattle.path_meaning.specs.Graphs.{GraphData}
-use Rattle.path_meaning.specs.Rails.{IsSound}
+use Rattle.switch_paths.specs.Graphs.{GraphData}
+use Rattle.switch_paths.specs.Rails.{IsSound}
 use Rattle.group_text.specs.Texts.{GroupTextData}
 use Rattle.group_text.specs.FirstTexts.{new_texts}
 use Rattle.circuit_texts.specs.declared.texts.BuildFault.{BuildFault}
@@ -25,20 +25,21 @@ pub core-kept : (session : SessionData) (state : List Tern) (bound : Option ℕ)
 core-kept session state bound kept fresh same is =
     IsSession-beside session state session.count session.missed bound kept fresh (ap length same ∙ is.ready.states) (subst IsSound (sym same) is.ready.sound) is
 
-module _ {M : Type 0} (lanes : M → ℕ) (states : M → ℕ → List Tern) (serves : M → GraphData → List GroupTextData → Type 0)
+module _ {M : Type 0} (columns : M → ℕ) (states : M → ℕ → List Tern) (serves : M → GraphData → List GroupTextData → Type 0)
     (session : HeldSession M) (stage : M) (bound : Option ℕ) (kept : List GroupTextData) (fresh : ℕ) (state : states stage 0 ≡ session.core.state) where
   -- the session behind a build
   abbrev pub built : HeldSession M
   built = record { core = record session.core { state = states stage 0; bound = bound; kept = kept; fresh = fresh }; stage = stage }
 
   -- it is one
-  pub held_built : lanes stage ≡ lanes session.stage →
-      ((lane : ℕ) → lane < lanes session.stage → states stage lane ≡ states session.stage lane) → serves stage session.core.circuit.graph kept →
-      IsHeldSession lanes states serves session → IsHeldSession lanes states serves built
+  pub held_built : columns stage ≡ columns session.stage →
+      ((column : ℕ) → column < columns session.stage → states stage column ≡ states session.stage column) →
+      serves stage session.core.circuit.graph kept →
+      IsHeldSession columns states serves session → IsHeldSession columns states serves built
   held_built count each serving held = record {
     core = core-kept session.core (states stage 0) bound kept fresh state held.core;
     some = subst (λ (n : ℕ). 1 ≤ n) (sym count) held.some;
-    sound = sound_still lanes states session.core.circuit.graph session.stage stage count each held.sound;
+    sound = sound_still columns states session.core.circuit.graph session.stage stage count each held.sound;
     same = refl;
     served = serving;
   }

@@ -9,10 +9,10 @@ use Rattle.ternary.specs.declared.tern.Tern.{Tern}
 use Rattle.ternary.specs.declared.tern.Tern.TheVariants.{Zero, Unk}
 use Rattle.strength_order.specs.declared.TheConstants.{INPUT_LEVEL, LEAST_SIZE_LEVEL}
 use Rattle.strength_order.specs.Levels.{level_of_size}
-use Rattle.path_meaning.specs.declared.TheConstants.{GND, VDD, RAILS}
-use Rattle.path_meaning.specs.declared.switching.Switch.{Switch}
-use Rattle.path_meaning.specs.declared.switching.SwitchKind.{SwitchKind}
-use Rattle.path_meaning.specs.Graphs.{GraphData, nodes}
+use Rattle.switch_paths.specs.declared.TheConstants.{GND, VDD, RAILS}
+use Rattle.switch_paths.specs.declared.switching.Switch.{Switch}
+use Rattle.switch_paths.specs.declared.switching.SwitchKind.{SwitchKind}
+use Rattle.switch_paths.specs.Graphs.{GraphData, nodes}
 use Rattle.channel_groups.specs.declared.change.Change.{Change}
 use Rattle.group_text.specs.Texts.{GroupTextData}
 use Rattle.column_stage.specs.Columns.{AreSound, IsSoundState, with_new_nodes}
@@ -150,12 +150,12 @@ room_wires before after number spare gate source drain is enough =
 
 -- ---- the stage
 
-module _ {M : Type 0} (lanes : M → ℕ) (states : M → ℕ → List Tern) (serves : M → GraphData → List GroupTextData → Type 0) where
+module _ {M : Type 0} (columns : M → ℕ) (states : M → ℕ → List Tern) (serves : M → GraphData → List GroupTextData → Type 0) where
   -- what a stage asks of an edit, where it has a session's states and serves its circuit
-  pub asks_edit : (session : HeldSession M) → IsHeldSession lanes states serves session → (g : GraphData) (change : Change) (stage : M) (spare : ℕ)
+  pub asks_edit : (session : HeldSession M) → IsHeldSession columns states serves session → (g : GraphData) (change : Change) (stage : M) (spare : ℕ)
       (kept : List GroupTextData) → IsUndone session.core.circuit.graph g change →
-      AreSound session.core.circuit.graph (lanes stage) (states stage) → nodes g ≤ nodes session.core.circuit.graph + spare → serves stage session.core.circuit.graph kept →
-      (before : GraphData) × IsUndone before g change × AreSound before (lanes stage) (states stage) × (nodes g ≤ nodes before + spare) × serves stage before kept
+      AreSound session.core.circuit.graph (columns stage) (states stage) → nodes g ≤ nodes session.core.circuit.graph + spare → serves stage session.core.circuit.graph kept →
+      (before : GraphData) × IsUndone before g change × AreSound before (columns stage) (states stage) × (nodes g ≤ nodes before + spare) × serves stage before kept
   asks_edit session held g change stage spare kept undone sound room serving = (
     session.core.circuit.graph,
     undone,
@@ -180,26 +180,26 @@ module _ {M : Type 0} (lanes : M → ℕ) (states : M → ℕ → List Tern) (se
     core_kept few = core_edited ∙ sym (kept_states session.core c few)
 
     -- if each column has X for each new node, all are sound
-    sounds_edited : IsCircuit c → nodes session.core.circuit.graph ≤ nodes c.graph → lanes stage ≡ lanes session.stage →
-        ((lane : ℕ) → lane < lanes session.stage → states stage lane ≡ with_new_nodes (states session.stage lane) (nodes c.graph)) →
-        IsHeldSession lanes states serves session → AreSound c.graph (lanes stage) (states stage)
-    sounds_edited is_circuit more count each held = λ lane inside.
-        let within : lane < lanes session.stage = subst (λ (n : ℕ). lane < n) count inside in
-        let sound = held.sound lane within in
-        let ready = IsReady-grown (record session.core { state = states session.stage lane }) c is_circuit more (record {
+    sounds_edited : IsCircuit c → nodes session.core.circuit.graph ≤ nodes c.graph → columns stage ≡ columns session.stage →
+        ((column : ℕ) → column < columns session.stage → states stage column ≡ with_new_nodes (states session.stage column) (nodes c.graph)) →
+        IsHeldSession columns states serves session → AreSound c.graph (columns stage) (states stage)
+    sounds_edited is_circuit more count each held = λ column inside.
+        let within : column < columns session.stage = subst (λ (n : ℕ). column < n) count inside in
+        let sound = held.sound column within in
+        let ready = IsReady-grown (record session.core { state = states session.stage column }) c is_circuit more (record {
           netlist = held.core.ready.netlist;
           states = sound.counted;
           sound = sound.sound;
           free = held.core.ready.free;
           saved = held.core.ready.saved;
         }) in
-        subst (λ (state : List Tern). IsSoundState c.graph state) (sym (each lane within)) (record { counted = ready.states; sound = ready.sound })
+        subst (λ (state : List Tern). IsSoundState c.graph state) (sym (each column within)) (record { counted = ready.states; sound = ready.sound })
 
     -- it is a session
-    pub held_edited : IsCircuit c → nodes session.core.circuit.graph ≤ nodes c.graph → lanes stage ≡ lanes session.stage →
-        ((lane : ℕ) → lane < lanes session.stage → states stage lane ≡ with_new_nodes (states session.stage lane) (nodes c.graph)) →
-        serves stage c.graph session.core.kept → IsHeldSession lanes states serves session →
-        IsHeldSession lanes states serves (edited session c stage bound kept)
+    pub held_edited : IsCircuit c → nodes session.core.circuit.graph ≤ nodes c.graph → columns stage ≡ columns session.stage →
+        ((column : ℕ) → column < columns session.stage → states stage column ≡ with_new_nodes (states session.stage column) (nodes c.graph)) →
+        serves stage c.graph session.core.kept → IsHeldSession columns states serves session →
+        IsHeldSession columns states serves (edited session c stage bound kept)
     held_edited is_circuit more count each serving held = record {
       core = subst IsSession (sym core_edited) (IsSession-grown session.core c is_circuit more held.core);
       some = subst (λ (n : ℕ). 1 ≤ n) (sym count) held.some;
@@ -209,11 +209,11 @@ module _ {M : Type 0} (lanes : M → ℕ) (states : M → ℕ → List Tern) (se
     }
 
   -- where room was taken before an edit, the columns' states are those from before with the new nodes
-  pub grown_behind : (start mid new : M) (count : ℕ) → lanes mid ≡ lanes start → ((lane : ℕ) → lane < lanes start → states mid lane ≡ states start lane) →
-      ((lane : ℕ) → lane < lanes mid → states new lane ≡ with_new_nodes (states mid lane) count) → (lane : ℕ) → lane < lanes start →
-      states new lane ≡ with_new_nodes (states start lane) count
-  grown_behind start mid new count as_many same grown lane inside =
-      grown lane (subst (λ (n : ℕ). lane < n) (sym as_many) inside) ∙ ap (λ (state : List Tern). with_new_nodes state count) (same lane inside)
+  pub grown_behind : (start mid new : M) (count : ℕ) → columns mid ≡ columns start → ((column : ℕ) → column < columns start → states mid column ≡ states start column) →
+      ((column : ℕ) → column < columns mid → states new column ≡ with_new_nodes (states mid column) count) → (column : ℕ) → column < columns start →
+      states new column ≡ with_new_nodes (states start column) count
+  grown_behind start mid new count as_many same grown column inside =
+      grown column (subst (λ (n : ℕ). column < n) (sym as_many) inside) ∙ ap (λ (state : List Tern). with_new_nodes state count) (same column inside)
 
 -- ---- refusals
 

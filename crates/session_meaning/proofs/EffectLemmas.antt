@@ -10,10 +10,10 @@ use Rattle.ternary.specs.declared.tern.Tern.{Tern}
 use Rattle.ternary.specs.declared.tern.Tern.TheVariants.{Unk}
 use Rattle.strength_order.specs.declared.TheConstants.{INPUT_LEVEL}
 use Rattle.strength_order.specs.Levels.{IsLevel, level_of_size}
-use Rattle.path_meaning.specs.Graphs.{nodes}
-use Rattle.path_meaning.proofs.ExistingSteps.{exists}
-use Rattle.oscillation_x.proofs.SettlingExists.{every_state}
-use Rattle.path_meaning.specs.declared.TheConstants.{RAILS}
+use Rattle.switch_paths.specs.Graphs.{nodes}
+use Rattle.switch_paths.proofs.ExistingSteps.{exists}
+use Rattle.settling.proofs.SettlingExists.{every_state}
+use Rattle.switch_paths.specs.declared.TheConstants.{RAILS}
 use Rattle.netlist.specs.Names.{node_of}
 use Rattle.netlist.specs.Circuits.{CircuitData, IsCircuit}
 use Rattle.netlist.proofs.KeptLemmas.{IsLevel-input, IsLevel-size, IsCircuit-with_level}

@@ -6,12 +6,12 @@ use Rattle.std.proofs.lemmas.Bool.{ne_eqb}
 use Rattle.std.proofs.lemmas.List.{drop_more, length-map, take_more}
 use Rattle.std.proofs.lemmas.List.Elements.{filter_map-append, All-nil, All-cons, All-append, All-head, All-tail, All-weaker}
 use Rattle.ternary.specs.declared.tern.Tern.{Tern}
-use Rattle.path_meaning.specs.Switching.{state_at}
+use Rattle.switch_paths.specs.Switching.{state_at}
 use Rattle.vector_values.specs.Values.{Letter}
 use Rattle.script_lang.specs.declared.value.Value.{Value}
 use Rattle.node_values.specs.declared.fault.GivenFault.{GivenFault}
 use Rattle.node_values.specs.Givings.{letters_given}
-use Rattle.wave_print.specs.declared.lines.TheConstants.{COLUMN_ROOM, SHOW_LINE_ROOM}
+use Rattle.printed_lines.specs.declared.lines.TheConstants.{COLUMN_ROOM, SHOW_LINE_ROOM}
 use Rattle.group_text.specs.FirstTexts.{first_texts}
 use Rattle.group_text.specs.Texts.{GroupTextData}
 use Rattle.circuit_texts.specs.Building.{HasTexts}

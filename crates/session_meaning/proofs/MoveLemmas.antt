@@ -2,9 +2,9 @@
 use Rattle.std.proofs.Common.{◌≡◌, ℕ, ◌+◌, List, [], ◌∷◌, ◌++◌, map, refl, sym, ap, subst, ◌∙◌, append_assoc, append-nil}
 use Rattle.std.specs.List.{range_with_len}
 use Rattle.ternary.specs.declared.tern.Tern.{Tern}
-use Rattle.path_meaning.specs.Graphs.{GraphData}
-use Rattle.path_meaning.specs.Switching.{state_at}
-use Rattle.oscillation_x.specs.declared.settling.Settled.{Settled}
+use Rattle.switch_paths.specs.Graphs.{GraphData}
+use Rattle.switch_paths.specs.Switching.{state_at}
+use Rattle.settling.specs.declared.settling.Settled.{Settled}
 use Rattle.group_text.specs.Texts.{GroupTextData}
 use Rattle.column_stage.specs.Acts.{Act, Leads, Rested, Stepped}
 use Rattle.column_stage.proofs.LeadingLemmas.{leads_append, leads_one}

@@ -1,7 +1,7 @@
 -- Outcomes: a command whose effect was done, and whose lines were heard or a part of them, is obeyed; and what a build before it comes to.
 use Rattle.std.proofs.Common.{◌≡◌, ℕ, ◌<◌, Bool, true, false, List, [], ◌++◌, None, Ok, Err, refl, sym, ap, subst, ◌∙◌, inl, inr, append-nil}
 use Rattle.std.specs.Prelude.{Option, Result, OnOk, OnErr, IfErr}
-use Rattle.path_meaning.specs.Graphs.{nodes}
+use Rattle.switch_paths.specs.Graphs.{nodes}
 use Rattle.circuit_texts.specs.declared.texts.BuildFault.TheVariants as build
 use Rattle.group_text.specs.Texts.{GroupTextData}
 use Rattle.script_lang.specs.declared.command.Command.{Command}

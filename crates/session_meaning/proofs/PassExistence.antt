@@ -1,10 +1,10 @@
 -- From ready data every command has its steps and phases.
 use Rattle.std.proofs.Common.{◌≡◌, ℕ, List, [], ◌∷◌, length, refl, ◌∙◌}
 use Rattle.ternary.specs.declared.tern.Tern.{Tern}
-use Rattle.path_meaning.specs.Graphs.{GraphData, IsWired, nodes}
-use Rattle.oscillation_x.specs.Passing.{last_state}
-use Rattle.oscillation_x.specs.Passes.{Pass, state_behind}
-use Rattle.oscillation_x.proofs.PassingLemmas.{every_state_passes, passing_settles}
+use Rattle.switch_paths.specs.Graphs.{GraphData, IsWired, nodes}
+use Rattle.settling.specs.Passing.{last_state}
+use Rattle.settling.specs.Passes.{Pass, state_behind}
+use Rattle.settling.proofs.PassingLemmas.{every_state_passes, passing_settles}
 use Rattle.script_lang.specs.declared.command.Command.{Command}
 use Rattle.script_lang.specs.declared.command.Command.TheVariants as family
 use Rattle.script_lang.specs.declared.command.Run.{Run}

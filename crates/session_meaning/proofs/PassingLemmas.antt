@@ -9,17 +9,17 @@ use Rattle.std.proofs.lemmas.List.Elements.{All-contains, All-map}
 use Rattle.std.proofs.lemmas.Simd.{map-map}
 use Rattle.ternary.specs.declared.tern.Tern.{Tern}
 use Rattle.ternary.specs.declared.tern.Tern.TheVariants.{Zero, Unk}
-use Rattle.path_meaning.specs.Graphs.{GraphData, nodes}
-use Rattle.path_meaning.specs.Step.{IsStep}
-use Rattle.path_meaning.specs.Switching.{state_at}
+use Rattle.switch_paths.specs.Graphs.{GraphData, nodes}
+use Rattle.switch_paths.specs.Step.{IsStep}
+use Rattle.switch_paths.specs.Switching.{state_at}
 use Rattle.netlist.specs.Circuits.{CircuitData}
-use Rattle.oscillation_x.specs.Moved.{ListsChanges}
-use Rattle.oscillation_x.specs.Observing.{IsSeen}
-use Rattle.oscillation_x.specs.declared.settling.Settled.{Settled}
-use Rattle.oscillation_x.specs.Passing.{SteppingThrough, see_all}
-use Rattle.oscillation_x.specs.Passes.{Pass, state_behind, see_passes, last_behind}
-use Rattle.oscillation_x.proofs.PassingLemmas.{stepping_unique, passing_is_unique}
-use Rattle.oscillation_x.proofs.PassesLemmas.{last_behind-append, see_passes-append, same_pass}
+use Rattle.settling.specs.Moved.{ListsChanges}
+use Rattle.settling.specs.Observing.{IsSeen}
+use Rattle.settling.specs.declared.settling.Settled.{Settled}
+use Rattle.settling.specs.Passing.{SteppingThrough, see_all}
+use Rattle.settling.specs.Passes.{Pass, state_behind, see_passes, last_behind}
+use Rattle.settling.proofs.PassingLemmas.{stepping_unique, passing_is_unique}
+use Rattle.settling.proofs.PassesLemmas.{last_behind-append, see_passes-append, same_pass}
 use Rattle.column_stage.specs.Acts.{Act}
 use Rattle.script_lang.specs.declared.command.Command.{Command}
 use Rattle.script_lang.specs.declared.command.Command.TheVariants as family

@@ -9,45 +9,47 @@ use Rattle.session_meaning.specs.Columns.{AreRows}
 use Rattle.session_meaning.specs.Columns.AreRows.{no_row, one_more}
 
 -- rows are told by the lines of the columns that there are
-pub rows-alike : {lanes : ℕ} {lines : ℕ → List Line} {told : List Told} (other : ℕ → List Line) → ((lane : ℕ) → lane < lanes → other lane ≡ lines lane) →
-    AreRows lanes lines told → AreRows lanes other told
-rows-alike other same (no_row lines none) = no_row other (λ lane inside. same lane inside ∙ none lane inside)
+pub rows-alike : {columns : ℕ} {lines : ℕ → List Line} {told : List Told} (other : ℕ → List Line) → ((column : ℕ) → column < columns → other column ≡ lines column) →
+    AreRows columns lines told → AreRows columns other told
+rows-alike other same (no_row lines none) = no_row other (λ column inside. same column inside ∙ none column inside)
 rows-alike other same (one_more lines others line told parts rows) =
-    one_more other others line told (λ lane inside. same lane inside ∙ parts lane inside) rows
+    one_more other others line told (λ column inside. same column inside ∙ parts column inside) rows
 
 -- so lines of one column or more are told as one list
-pub rows_unique : {lanes : ℕ} {lines others : ℕ → List Line} {told more : List Told} → 0 < lanes →
-    ((lane : ℕ) → lane < lanes → lines lane ≡ others lane) → AreRows lanes lines told → AreRows lanes others more → told ≡ more
+pub rows_unique : {columns : ℕ} {lines others : ℕ → List Line} {told more : List Told} → 0 < columns →
+    ((column : ℕ) → column < columns → lines column ≡ others column) → AreRows columns lines told → AreRows columns others more → told ≡ more
 rows_unique some same (no_row lines none) (no_row others also) = refl
 rows_unique some same (no_row lines none) (one_more others left line told parts rows) = absurd (cc (none 0 some, same 0 some, parts 0 some))
 rows_unique some same (one_more lines rest line told parts rows) (no_row others none) = absurd (cc (none 0 some, same 0 some, parts 0 some))
-rows_unique {lanes} some same (one_more lines rest line told parts rows) (one_more others left other more pieces further) =
-    let here : (lane : ℕ) → lane < lanes → line lane ≡ other lane = λ lane inside. cc (parts lane inside, same lane inside, pieces lane inside) in
-    let later : (lane : ℕ) → lane < lanes → rest lane ≡ left lane = λ lane inside. cc (parts lane inside, same lane inside, pieces lane inside) in
-    ap (λ (row : List Told). row ++ told) (row-alike line other lanes here)
-    ∙ ap (λ (after : List Told). row_of_lines other lanes ++ after) (rows_unique some later rows further)
+rows_unique {columns} some same (one_more lines rest line told parts rows) (one_more others left other more pieces further) =
+    let here : (column : ℕ) → column < columns → line column ≡ other column =
+    λ column inside. cc (parts column inside, same column inside, pieces column inside) in
+    let later : (column : ℕ) → column < columns → rest column ≡ left column =
+    λ column inside. cc (parts column inside, same column inside, pieces column inside) in
+    ap (λ (row : List Told). row ++ told) (row-alike line other columns here)
+    ∙ ap (λ (after : List Told). row_of_lines other columns ++ after) (rows_unique some later rows further)
 
 -- ---- rows
 
 -- no lines are told as none
-pub rows-none : (lanes : ℕ) → AreRows lanes (λ lane. []) []
-rows-none lanes = no_row (λ lane. []) (λ lane inside. refl)
+pub rows-none : (columns : ℕ) → AreRows columns (λ column. []) []
+rows-none columns = no_row (λ column. []) (λ column inside. refl)
 
 -- a line of each column makes a row
-pub rows-one : (lanes : ℕ) (line : ℕ → Line) → AreRows lanes (λ lane. line lane ∷ []) (row_of_lines line lanes)
-rows-one lanes line =
-    subst (AreRows lanes (λ lane. line lane ∷ [])) (append-nil (row_of_lines line lanes))
-    (one_more (λ lane. line lane ∷ []) (λ lane. []) line [] (λ lane inside. refl) (rows-none lanes))
+pub rows-one : (columns : ℕ) (line : ℕ → Line) → AreRows columns (λ column. line column ∷ []) (row_of_lines line columns)
+rows-one columns line =
+    subst (AreRows columns (λ column. line column ∷ [])) (append-nil (row_of_lines line columns))
+    (one_more (λ column. line column ∷ []) (λ column. []) line [] (λ column inside. refl) (rows-none columns))
 
 -- rows, and then more
-pub rows-append : {lanes : ℕ} {lines : ℕ → List Line} {told : List Told} (more : ℕ → List Line) (next : List Told) → AreRows lanes lines told →
-    AreRows lanes more next → AreRows lanes (λ lane. lines lane ++ more lane) (told ++ next)
+pub rows-append : {columns : ℕ} {lines : ℕ → List Line} {told : List Told} (more : ℕ → List Line) (next : List Told) → AreRows columns lines told →
+    AreRows columns more next → AreRows columns (λ column. lines column ++ more column) (told ++ next)
 rows-append more next (no_row lines none) later =
-    rows-alike (λ lane. lines lane ++ more lane) (λ lane inside. ap (λ (front : List Line). front ++ more lane) (none lane inside)) later
-rows-append {lanes} more next (one_more lines others line told parts rows) later =
-    subst (AreRows lanes (λ lane. lines lane ++ more lane)) (sym (append_assoc (row_of_lines line lanes) told next))
-    (one_more (λ lane. lines lane ++ more lane) (λ lane. others lane ++ more lane) line (told ++ next)
-    (λ lane inside. ap (λ (front : List Line). front ++ more lane) (parts lane inside)) (rows-append more next rows later))
+    rows-alike (λ column. lines column ++ more column) (λ column inside. ap (λ (front : List Line). front ++ more column) (none column inside)) later
+rows-append {columns} more next (one_more lines others line told parts rows) later =
+    subst (AreRows columns (λ column. lines column ++ more column)) (sym (append_assoc (row_of_lines line columns) told next))
+    (one_more (λ column. lines column ++ more column) (λ column. others column ++ more column) line (told ++ next)
+    (λ column inside. ap (λ (front : List Line). front ++ more column) (parts column inside)) (rows-append more next rows later))
 
 -- the first line, and those after it
 first_line : List Line → Line
@@ -68,26 +70,26 @@ no_lines [] counted = refl
 no_lines (line ∷ lines) counted = absurd (omega (arith, counted))
 
 -- columns with equally many lines have rows
-pub rows_exist : (lanes count : ℕ) (lines : ℕ → List Line) → ((lane : ℕ) → lane < lanes → length (lines lane) ≡ count) →
-    (told : List Told) × AreRows lanes lines told
-rows_exist lanes zero lines counted = ([], no_row lines (λ lane inside. no_lines (lines lane) (counted lane inside)))
-rows_exist lanes (suc count) lines counted =
-    let others : ℕ → List Line = λ lane. other_lines (lines lane) in
-    let line : ℕ → Line = λ lane. first_line (lines lane) in
-    let more = rows_exist lanes count others (λ lane inside. (cut_line count (lines lane) (counted lane inside)).1) in (
-      row_of_lines line lanes ++ more.0,
-      one_more lines others line more.0 (λ lane inside. (cut_line count (lines lane) (counted lane inside)).0) more.1,
+pub rows_exist : (columns count : ℕ) (lines : ℕ → List Line) → ((column : ℕ) → column < columns → length (lines column) ≡ count) →
+    (told : List Told) × AreRows columns lines told
+rows_exist columns zero lines counted = ([], no_row lines (λ column inside. no_lines (lines column) (counted column inside)))
+rows_exist columns (suc count) lines counted =
+    let others : ℕ → List Line = λ column. other_lines (lines column) in
+    let line : ℕ → Line = λ column. first_line (lines column) in
+    let more = rows_exist columns count others (λ column inside. (cut_line count (lines column) (counted column inside)).1) in (
+      row_of_lines line columns ++ more.0,
+      one_more lines others line more.0 (λ column inside. (cut_line count (lines column) (counted column inside)).0) more.1,
     )
 
 -- what is there of each of the columns is there of all at once
-module _ {A : Type 0} (lanes : ℕ) (P : ℕ → A → Type 0) (other : ℕ → A) (found : (lane : ℕ) → lane < lanes → (a : A) × P lane a) where
-  abbrev pick : (lane : ℕ) → (lane < lanes) ⊎ (lanes ≤ lane) → A
-  pick lane (inl inside) = (found lane inside).0
-  pick lane (inr past) = other lane
+module _ {A : Type 0} (columns : ℕ) (P : ℕ → A → Type 0) (other : ℕ → A) (found : (column : ℕ) → column < columns → (a : A) × P column a) where
+  abbrev pick : (column : ℕ) → (column < columns) ⊎ (columns ≤ column) → A
+  pick column (inl inside) = (found column inside).0
+  pick column (inr past) = other column
 
-  picked : (lane : ℕ) (which : (lane < lanes) ⊎ (lanes ≤ lane)) → lane < lanes → P lane (pick lane which)
-  picked lane (inl inside) within = (found lane inside).1
-  picked lane (inr past) within = absurd (omega (arith, past, within))
+  picked : (column : ℕ) (which : (column < columns) ⊎ (columns ≤ column)) → column < columns → P column (pick column which)
+  picked column (inl inside) within = (found column inside).1
+  picked column (inr past) within = absurd (omega (arith, past, within))
 
-  pub choose : (f : ℕ → A) × ((lane : ℕ) → lane < lanes → P lane (f lane))
-  choose = (λ lane. pick lane (cases_lt lane lanes), λ lane inside. picked lane (cases_lt lane lanes) inside)
+  pub choose : (f : ℕ → A) × ((column : ℕ) → column < columns → P column (f column))
+  choose = (λ column. pick column (cases_lt column columns), λ column inside. picked column (cases_lt column columns) inside)

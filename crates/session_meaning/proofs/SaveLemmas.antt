@@ -9,10 +9,10 @@ use Rattle.std.proofs.lemmas.Slice.Eq.{bytes_eq-Decides}
 use Rattle.std.proofs.lemmas.List.Elements.{All-nil, All-cons, All-head, All-tail, All-weaker}
 use Rattle.ternary.specs.declared.tern.Tern.{Tern}
 use Rattle.ternary.specs.declared.tern.Tern.TheVariants.{Zero, One}
-use Rattle.path_meaning.specs.Graphs.{nodes}
-use Rattle.path_meaning.specs.Rails.{IsSound}
-use Rattle.path_meaning.specs.Switching.{state_at}
-use Rattle.path_meaning.specs.declared.TheConstants.{GND, VDD, RAILS}
+use Rattle.switch_paths.specs.Graphs.{nodes}
+use Rattle.switch_paths.specs.Rails.{IsSound}
+use Rattle.switch_paths.specs.Switching.{state_at}
+use Rattle.switch_paths.specs.declared.TheConstants.{GND, VDD, RAILS}
 use Rattle.node_words.specs.Vectors.{AreWithin}
 use Rattle.session_meaning.specs.declared.TheConstants.{MOST_WATCHED}
 use Rattle.session_meaning.specs.Saves.{is_under, kept_under, with_save, back_to, state_back, FitsSave, AreSaves}

@@ -3,7 +3,7 @@ use Rattle.std.proofs.Common.{◌≡◌, ℕ, zero, suc, ◌+◌, ◌<◌, ◌�
 use Rattle.std.proofs.lemmas.Bool.{cases_lt}
 use Rattle.std.specs.Prelude.{slice_get}
 use Rattle.std.proofs.lemmas.Option.{slice_get-get_or}
-use Rattle.path_meaning.specs.Graphs.{GraphData, IsWired}
+use Rattle.switch_paths.specs.Graphs.{GraphData, IsWired}
 use Rattle.group_meaning.specs.Groups.{Group, id_of, AreGroups}
 use Rattle.group_meaning.proofs.ExistingGroups.{exists}
 use Rattle.group_text.specs.declared.text.TextFault.{TextFault}

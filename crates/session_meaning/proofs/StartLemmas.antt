@@ -2,7 +2,7 @@
 use Rattle.std.proofs.Common.{◌≡◌, ℕ, ◌<◌, ◌≤◌, List, All, Option, None, refl, subst, sym, arith}
 use Rattle.std.proofs.lemmas.List.Elements.{All-nil}
 use Rattle.ternary.specs.declared.tern.Tern.{Tern}
-use Rattle.path_meaning.specs.Graphs.{GraphData, nodes}
+use Rattle.switch_paths.specs.Graphs.{GraphData, nodes}
 use Rattle.group_text.specs.Texts.{GroupTextData}
 use Rattle.column_stage.specs.Columns.{IsSoundState}
 use Rattle.column_stage.proofs.SoundLemmas.{first_of_some, some_alone, sound_alone}
@@ -37,33 +37,33 @@ pub core_start : (c : CircuitData) (state : List Tern) (bound : Option ℕ) (kep
 core_start c state bound kept table is free same = λ i. record (start_of c) { state = is i; bound = free i; kept = same i }
 
 -- with a stage that serves, they are held
-pub held_start : {M : Type 0} (lanes : M → ℕ) (states : M → ℕ → List Tern) (serves : M → GraphData → List GroupTextData → Type 0) (c : CircuitData) (stage : M)
-    (bound : Option ℕ) (kept : List GroupTextData) → IsCircuit c → states stage 0 ≡ (start_of c).state → bound ≡ None → lanes stage ≡ 1 →
+pub held_start : {M : Type 0} (columns : M → ℕ) (states : M → ℕ → List Tern) (serves : M → GraphData → List GroupTextData → Type 0) (c : CircuitData) (stage : M)
+    (bound : Option ℕ) (kept : List GroupTextData) → IsCircuit c → states stage 0 ≡ (start_of c).state → bound ≡ None → columns stage ≡ 1 →
     serves stage c.graph kept →
-    IsHeldSession lanes states serves (record { core = record (start_of c) { state = states stage 0; bound = bound; kept = kept }; stage = stage })
-held_start lanes states serves c stage bound kept is state free one serving =
+    IsHeldSession columns states serves (record { core = record (start_of c) { state = states stage 0; bound = bound; kept = kept }; stage = stage })
+held_start columns states serves c stage bound kept is state free one serving =
     let ready = ready-start c is in record {
       core = subst IsSession (sym (core_start c (states stage 0) bound kept kept state free refl)) (session_start c kept is);
-      some = some_alone (lanes stage) one;
-      sound = sound_alone c.graph (lanes stage) (states stage) one
+      some = some_alone (columns stage) one;
+      sound = sound_alone c.graph (columns stage) (states stage) one
           (subst (λ (start : List Tern). IsSoundState c.graph start) (sym state) (record { counted = ready.states; sound = ready.sound }));
       same = refl;
       served = serving;
     }
 
 -- so they are with one column or more, all at the start
-pub held_over : {M : Type 0} (lanes : M → ℕ) (states : M → ℕ → List Tern) (serves : M → GraphData → List GroupTextData → Type 0) (c : CircuitData) (stage : M)
-    (bound : Option ℕ) (kept : List GroupTextData) → IsCircuit c → 1 ≤ lanes stage →
-    ((lane : ℕ) → lane < lanes stage → states stage lane ≡ (start_of c).state) → bound ≡ None → serves stage c.graph kept →
-    IsHeldSession lanes states serves (record { core = record (start_of c) { state = states stage 0; bound = bound; kept = kept }; stage = stage })
-held_over lanes states serves c stage bound kept is some state free serving =
+pub held_over : {M : Type 0} (columns : M → ℕ) (states : M → ℕ → List Tern) (serves : M → GraphData → List GroupTextData → Type 0) (c : CircuitData) (stage : M)
+    (bound : Option ℕ) (kept : List GroupTextData) → IsCircuit c → 1 ≤ columns stage →
+    ((column : ℕ) → column < columns stage → states stage column ≡ (start_of c).state) → bound ≡ None → serves stage c.graph kept →
+    IsHeldSession columns states serves (record { core = record (start_of c) { state = states stage 0; bound = bound; kept = kept }; stage = stage })
+held_over columns states serves c stage bound kept is some state free serving =
     let ready = ready-start c is in
-    let first : states stage 0 ≡ (start_of c).state = state 0 (first_of_some (lanes stage) some) in
+    let first : states stage 0 ≡ (start_of c).state = state 0 (first_of_some (columns stage) some) in
     record {
       core = subst IsSession (sym (core_start c (states stage 0) bound kept kept first free refl)) (session_start c kept is);
       some = some;
-      sound = λ lane inside.
-          subst (λ (start : List Tern). IsSoundState c.graph start) (sym (state lane inside)) (record { counted = ready.states; sound = ready.sound });
+      sound = λ column inside.
+          subst (λ (start : List Tern). IsSoundState c.graph start) (sym (state column inside)) (record { counted = ready.states; sound = ready.sound });
       same = refl;
       served = serving;
     }

@@ -7,14 +7,14 @@ use Rattle.std.proofs.lemmas.List.Elements.{All-nil, All-cons, All-head, All-tai
 use Rattle.std.proofs.lemmas.Bool.Decides.{nat_tests}
 use Rattle.ternary.specs.declared.tern.Tern.{Tern}
 use Rattle.ternary.specs.declared.tern.Tern.TheVariants.{Zero}
-use Rattle.path_meaning.specs.declared.TheConstants.{GND, VDD, RAILS}
-use Rattle.path_meaning.specs.Graphs.{GraphData, nodes}
-use Rattle.path_meaning.specs.Rails.{IsSound}
-use Rattle.path_meaning.specs.Switching.{state_at}
-use Rattle.path_meaning.specs.Step.{IsStep}
-use Rattle.oscillation_x.specs.Settling.{Stepping, Joining, IsJoinStep, Settles}
-use Rattle.path_meaning.proofs.InputNodes.{input_response}
-use Rattle.path_meaning.proofs.UniqueSteps.{response_is_unique}
+use Rattle.switch_paths.specs.declared.TheConstants.{GND, VDD, RAILS}
+use Rattle.switch_paths.specs.Graphs.{GraphData, nodes}
+use Rattle.switch_paths.specs.Rails.{IsSound}
+use Rattle.switch_paths.specs.Switching.{state_at}
+use Rattle.switch_paths.specs.Step.{IsStep}
+use Rattle.settling.specs.Settling.{Stepping, Joining, IsJoinStep, Settles}
+use Rattle.switch_paths.proofs.InputNodes.{input_response}
+use Rattle.switch_paths.proofs.UniqueSteps.{response_is_unique}
 use Rattle.netlist.specs.Names.{node_of}
 use Rattle.netlist.specs.Circuits.{CircuitData, IsCircuit}
 use Rattle.netlist.specs.Edits.{node_named}

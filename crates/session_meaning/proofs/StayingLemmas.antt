@@ -1,8 +1,8 @@
 -- A session stays one while its stage moves: the stage has as many columns still, sound states in each, and serves.
 use Rattle.std.proofs.Common.{◌≡◌, ℕ, ◌≤◌, List, length, refl, sym, subst}
 use Rattle.ternary.specs.declared.tern.Tern.{Tern}
-use Rattle.path_meaning.specs.Graphs.{GraphData, nodes}
-use Rattle.path_meaning.specs.Rails.{IsSound}
+use Rattle.switch_paths.specs.Graphs.{GraphData, nodes}
+use Rattle.switch_paths.specs.Rails.{IsSound}
 use Rattle.group_text.specs.Texts.{GroupTextData}
 use Rattle.column_stage.specs.Columns.{AreSound, IsSoundState}
 use Rattle.column_stage.proofs.SoundLemmas.{first_of_some, some_alone, sound_alone}
@@ -10,8 +10,8 @@ use Rattle.session_meaning.specs.Sessions.{SessionData, HeldSession, IsHeldSessi
 use Rattle.session_meaning.proofs.ClockLemmas.{IsSession-beside}
 
 -- the session that a fact is of
-abbrev pub session_of : {M : Type 0} {lanes : M → ℕ} {states : M → ℕ → List Tern} {serves : M → GraphData → List GroupTextData → Type 0} {session : HeldSession M} →
-    IsHeldSession lanes states serves session → HeldSession M
+abbrev pub session_of : {M : Type 0} {columns : M → ℕ} {states : M → ℕ → List Tern} {serves : M → GraphData → List GroupTextData → Type 0} {session : HeldSession M} →
+    IsHeldSession columns states serves session → HeldSession M
 session_of {session = session} held = session
 
 -- other states are given, and the texts that are kept are read anew
@@ -24,9 +24,9 @@ pub core_moved : (session : SessionData) (state next : List Tern) (count later :
     kept ≡ session.kept → (record session { state = state; count = count; kept = kept }) ≡ record session { state = next; count = later }
 core_moved session state next count later kept given counted same = λ i. record session { state = given i; count = counted i; kept = same i }
 
-module _ {M : Type 0} (lanes : M → ℕ) (states : M → ℕ → List Tern) (serves : M → GraphData → List GroupTextData → Type 0) where
+module _ {M : Type 0} (columns : M → ℕ) (states : M → ℕ → List Tern) (serves : M → GraphData → List GroupTextData → Type 0) where
   -- the states of a session are sound
-  pub sound_held : (session : HeldSession M) → IsHeldSession lanes states serves session → IsSoundState session.core.circuit.graph (states session.stage 0)
+  pub sound_held : (session : HeldSession M) → IsHeldSession columns states serves session → IsSoundState session.core.circuit.graph (states session.stage 0)
   sound_held session held =
       subst (λ (state : List Tern). IsSoundState session.core.circuit.graph state) (sym held.same)
       (record { counted = held.core.ready.states; sound = held.core.ready.sound })
@@ -36,24 +36,24 @@ module _ {M : Type 0} (lanes : M → ℕ) (states : M → ℕ → List Tern) (se
   moved session stage count kept = record { core = record session.core { state = states stage 0; count = count; kept = kept }; stage = stage }
 
   -- it is one
-  pub held_moved : (session : HeldSession M) (stage : M) (count : ℕ) (kept : List GroupTextData) → kept ≡ session.core.kept → lanes stage ≡ 1 →
+  pub held_moved : (session : HeldSession M) (stage : M) (count : ℕ) (kept : List GroupTextData) → kept ≡ session.core.kept → columns stage ≡ 1 →
       length (states stage 0) ≡ nodes session.core.circuit.graph → IsSound (states stage 0) →
-      serves stage session.core.circuit.graph session.core.kept → IsHeldSession lanes states serves session →
-      IsHeldSession lanes states serves (moved session stage count kept)
+      serves stage session.core.circuit.graph session.core.kept → IsHeldSession columns states serves session →
+      IsHeldSession columns states serves (moved session stage count kept)
   held_moved session stage count kept same one counted sound serving held = record {
     core = IsSession-beside session.core (states stage 0) count session.core.missed session.core.bound kept session.core.fresh counted sound held.core;
-    some = some_alone (lanes stage) one;
-    sound = sound_alone session.core.circuit.graph (lanes stage) (states stage) one (record { counted = counted; sound = sound });
+    some = some_alone (columns stage) one;
+    sound = sound_alone session.core.circuit.graph (columns stage) (states stage) one (record { counted = counted; sound = sound });
     same = refl;
     served = subst (serves stage session.core.circuit.graph) (sym same) serving;
   }
 
   -- so it is with columns that are sound
-  pub held_beside : (session : HeldSession M) (stage : M) (count : ℕ) (kept : List GroupTextData) → kept ≡ session.core.kept → 1 ≤ lanes stage →
-      AreSound session.core.circuit.graph (lanes stage) (states stage) → serves stage session.core.circuit.graph session.core.kept →
-      IsHeldSession lanes states serves session → IsHeldSession lanes states serves (moved session stage count kept)
+  pub held_beside : (session : HeldSession M) (stage : M) (count : ℕ) (kept : List GroupTextData) → kept ≡ session.core.kept → 1 ≤ columns stage →
+      AreSound session.core.circuit.graph (columns stage) (states stage) → serves stage session.core.circuit.graph session.core.kept →
+      IsHeldSession columns states serves session → IsHeldSession columns states serves (moved session stage count kept)
   held_beside session stage count kept same some sound serving held =
-      let first = sound 0 (first_of_some (lanes stage) some) in record {
+      let first = sound 0 (first_of_some (columns stage) some) in record {
         core = IsSession-beside session.core (states stage 0) count session.core.missed session.core.bound kept session.core.fresh first.counted first.sound
             held.core;
         some = some;

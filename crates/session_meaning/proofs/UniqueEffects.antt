@@ -3,8 +3,8 @@
 -- texts; a cycle is phases; each other command's effect is a function.
 use Rattle.std.proofs.Common.{◌≡◌, ℕ, Bool, false, List, [], ◌∷◌, ◌++◌, length, refl, sym, ap, subst, ◌∙◌}
 use Rattle.group_meaning.proofs.UniqueGroups.{unique}
-use Rattle.path_meaning.proofs.UniqueSteps as step
-use Rattle.oscillation_x.proofs.UniqueSettling.{settling_is_unique}
+use Rattle.switch_paths.proofs.UniqueSteps as step
+use Rattle.settling.proofs.UniqueSettling.{settling_is_unique}
 use Rattle.group_text.specs.Texts.{GroupTextData}
 use Rattle.group_text.specs.FirstTexts.{first_texts}
 use Rattle.script_lang.specs.declared.command.Command.{Command}

@@ -5,8 +5,8 @@ use Rattle.std.proofs.lemmas.Bool.Decides.{nat_tests}
 use Rattle.std.proofs.lemmas.List.Elements.{All-nil, All-append, All-map, All-weaker}
 use Rattle.ternary.specs.declared.tern.Tern.{Tern}
 use Rattle.strength_order.specs.declared.TheConstants.{INPUT_LEVEL}
-use Rattle.path_meaning.specs.Graphs.{nodes, level_of}
-use Rattle.path_meaning.specs.declared.TheConstants.{RAILS}
+use Rattle.switch_paths.specs.Graphs.{nodes, level_of}
+use Rattle.switch_paths.specs.declared.TheConstants.{RAILS}
 use Rattle.netlist.specs.Circuits.{CircuitData, IsCircuit}
 use Rattle.vector_values.specs.Values.{Letter}
 use Rattle.script_lang.specs.declared.value.Value.{Value}

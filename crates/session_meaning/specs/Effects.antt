@@ -5,12 +5,12 @@ use Rattle.std.specs.Prelude.{◌≡◌, ℕ, Bool, true, false, ◌||◌, ◌+�
 use Rattle.std.specs.List.{flat_map, list_all, list_any, range_with_len}
 use Rattle.ternary.specs.declared.tern.Tern.{Tern}
 use Rattle.ternary.specs.declared.tern.Tern.TheVariants.{Unk}
-use Rattle.path_meaning.specs.Switching.{state_at}
-use Rattle.path_meaning.specs.Step.{IsStep}
-use Rattle.oscillation_x.specs.Settling.{Settles}
+use Rattle.switch_paths.specs.Switching.{state_at}
+use Rattle.switch_paths.specs.Step.{IsStep}
+use Rattle.settling.specs.Settling.{Settles}
 use Rattle.netlist.specs.Circuits.{CircuitData}
 use Rattle.netlist.specs.Edits.{node_named, with_input, with_store, with_transistor, without_switch, with_strength, with_kind, with_wires}
-use Rattle.path_meaning.specs.Graphs.{nodes}
+use Rattle.switch_paths.specs.Graphs.{nodes}
 use Rattle.group_text.specs.FirstTexts.{first_texts}
 use Rattle.group_text.specs.Texts.{GroupTextData}
 use Rattle.circuit_texts.specs.Building.{HasTexts}

@@ -3,15 +3,15 @@ use Rattle.std.specs.Prelude.{◌≡◌, ℕ, List, length}
 use Rattle.ternary.specs.declared.tern.Tern.{Tern}
 use Rattle.group_text.specs.Texts.{GroupTextData}
 use Rattle.script_lang.specs.declared.command.Command.{Command}
-use Rattle.lane_script.specs.declared.command.LaneCommand.{LaneCommand}
-use Rattle.lane_script.specs.Commands.{in_column}
+use Rattle.column_script.specs.declared.command.ColumnCommand.{ColumnCommand}
+use Rattle.column_script.specs.Commands.{in_column}
 use Rattle.session_meaning.specs.Refusals.{refusal_of}
 use Rattle.session_meaning.specs.Saves.{state_back, with_save}
 use Rattle.session_meaning.specs.Sessions.{SessionData}
 use Rattle.told_lines.specs.Lines.{Line}
 use Rattle.session_meaning.specs.Effects.{Effect}
 use Rattle.session_meaning.specs.Outcomes.{Performs}
-use Rattle.oscillation_x.specs.Passes.{Pass}
+use Rattle.settling.specs.Passes.{Pass}
 use Rattle.session_meaning.specs.Passing.{PassesThrough}
 
 -- a command has one effect on some data: one outcome, and one list of lines
@@ -41,5 +41,5 @@ CommandsPassThroughOneList =
 -- whether a command for columns is refused, and why, doesn't depend on the column, nor on its state
 abbrev pub ColumnsRefuseAlike : Type 0
 ColumnsRefuseAlike =
-    (session : SessionData) (state : List Tern) (command : LaneCommand) (lane other : ℕ) →
-    refusal_of (record session { state = state }) (in_column lane command) ≡ refusal_of session (in_column other command)
+    (session : SessionData) (state : List Tern) (command : ColumnCommand) (column other : ℕ) →
+    refusal_of (record session { state = state }) (in_column column command) ≡ refusal_of session (in_column other command)

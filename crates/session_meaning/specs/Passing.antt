@@ -3,10 +3,10 @@
 use Rattle.std.specs.Prelude.{◌≡◌, ℕ, ◌⊎◌, List, [], ◌∷◌, length, map, Result, IfErr}
 use Rattle.ternary.specs.declared.tern.Tern.{Tern}
 use Rattle.ternary.specs.Counts.{raised}
-use Rattle.path_meaning.specs.Graphs.{GraphData}
-use Rattle.oscillation_x.specs.Moved.{IsGrown, ListsChanges}
-use Rattle.oscillation_x.specs.Passing.{SteppingThrough}
-use Rattle.oscillation_x.specs.Passes.{Pass, state_behind, see_pass, see_passes, last_behind}
+use Rattle.switch_paths.specs.Graphs.{GraphData}
+use Rattle.settling.specs.Moved.{IsGrown, ListsChanges}
+use Rattle.settling.specs.Passing.{SteppingThrough}
+use Rattle.settling.specs.Passes.{Pass, state_behind, see_pass, see_passes, last_behind}
 pub use Rattle.column_stage.specs.Seeing.{PhaseThrough, SeesStates}
 use Rattle.script_lang.specs.declared.command.Command.{Command}
 use Rattle.script_lang.specs.declared.command.Command.TheVariants as family

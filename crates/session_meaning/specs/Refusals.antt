@@ -3,11 +3,11 @@ use Rattle.std.specs.Prelude.{ℕ, Bool, ◌+◌, ◌==◌, List, [], ◌∷◌,
 use Rattle.std.specs.List.{flat_map}
 use Rattle.strength_order.specs.declared.TheConstants.{INPUT_LEVEL}
 use Rattle.ternary.specs.declared.tern.Tern.{Tern}
-use Rattle.path_meaning.specs.Graphs.{level_of}
-use Rattle.path_meaning.specs.declared.TheConstants.{RAILS}
+use Rattle.switch_paths.specs.Graphs.{level_of}
+use Rattle.switch_paths.specs.declared.TheConstants.{RAILS}
 use Rattle.netlist.specs.Names.{node_of}
 use Rattle.netlist.specs.Circuits.{CircuitData}
-use Rattle.path_meaning.specs.declared.switching.SwitchKind.{SwitchKind}
+use Rattle.switch_paths.specs.declared.switching.SwitchKind.{SwitchKind}
 use Rattle.netlist.specs.Edits.{is_size, usual_strength, add_fault, number_fault, strength_fault, wire_fault}
 use Rattle.netlist.specs.Faults.{MakingFault}
 use Rattle.netlist.specs.declared.fault.EditFault.{EditFault}

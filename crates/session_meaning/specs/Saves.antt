@@ -1,8 +1,8 @@
 -- The states that are kept under names, and what comes back of them.
 use Rattle.std.specs.Prelude.{ℕ, Bool, ◌≤◌, not, List, [], ◌∷◌, ◌++◌, length, drop, find, count_by, All, bytes_eq, option_map, unwrap_or, Option, if◌then◌else◌}
 use Rattle.ternary.specs.declared.tern.Tern.{Tern}
-use Rattle.path_meaning.specs.Rails.{IsSound}
-use Rattle.path_meaning.specs.declared.TheConstants.{RAILS}
+use Rattle.switch_paths.specs.Rails.{IsSound}
+use Rattle.switch_paths.specs.declared.TheConstants.{RAILS}
 
 -- they are kept under this name, compared byte by byte
 abbrev pub is_under : List ℕ → List ℕ × List Tern → Bool

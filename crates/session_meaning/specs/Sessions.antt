@@ -3,9 +3,9 @@ use Rattle.std.specs.Prelude.{◌≡◌, ◌≢◌, ℕ, Bool, true, false, ◌-
 use Rattle.std.specs.List.{list_all}
 use Rattle.ternary.specs.declared.tern.Tern.{Tern}
 use Rattle.ternary.specs.declared.tern.Tern.TheVariants.{Zero, One, Unk}
-use Rattle.path_meaning.specs.Graphs.{GraphData, nodes}
-use Rattle.path_meaning.specs.Rails.{IsSound}
-use Rattle.path_meaning.specs.declared.TheConstants.{RAILS}
+use Rattle.switch_paths.specs.Graphs.{GraphData, nodes}
+use Rattle.switch_paths.specs.Rails.{IsSound}
+use Rattle.switch_paths.specs.declared.TheConstants.{RAILS}
 use Rattle.group_text.specs.Texts.{GroupTextData}
 use Rattle.netlist.specs.Circuits.{CircuitData, IsCircuit}
 use Rattle.script_lang.specs.declared.TheConstants.{MOST_TIMES}
@@ -95,10 +95,10 @@ pub record IsSession (session : SessionData) : Type 0 where
 
 -- the data are those of a session; the stage has a column or more, in each of which the states are sound, those of the first are the data's, and
 -- it serves their circuit with what they keep
-pub record IsHeldSession {M : Type 0} (lanes : M → ℕ) (states : M → ℕ → List Tern) (serves : M → GraphData → List GroupTextData → Type 0)
+pub record IsHeldSession {M : Type 0} (columns : M → ℕ) (states : M → ℕ → List Tern) (serves : M → GraphData → List GroupTextData → Type 0)
     (session : HeldSession M) : Type 0 where
   pub core : IsSession session.core
-  pub some : 1 ≤ lanes session.stage
-  pub sound : AreSound session.core.circuit.graph (lanes session.stage) (states session.stage)
+  pub some : 1 ≤ columns session.stage
+  pub sound : AreSound session.core.circuit.graph (columns session.stage) (states session.stage)
   pub same : states session.stage 0 ≡ session.core.state
   pub served : serves session.stage session.core.circuit.graph session.core.kept

@@ -1,11 +1,11 @@
 -- What a command does to the stage of a session, act by act; and what calls inside the session do to both.
 use Rattle.std.specs.Prelude.{◌≡◌, ◌≢◌, ℕ, ◌≤◌, ◌⊎◌, Bool, List, [], ◌∷◌, ◌++◌, length, map, All, Option, None, Some, Result, Ok, Err}
 use Rattle.ternary.specs.declared.tern.Tern.{Tern}
-use Rattle.path_meaning.specs.Graphs.{GraphData, nodes, level_of, place_at}
-use Rattle.path_meaning.specs.Step.{IsStep}
-use Rattle.path_meaning.specs.Switching.{state_at}
-use Rattle.oscillation_x.specs.declared.settling.Settled.{Settled}
-use Rattle.oscillation_x.specs.Settling.{Settles}
+use Rattle.switch_paths.specs.Graphs.{GraphData, nodes, level_of, place_at}
+use Rattle.switch_paths.specs.Step.{IsStep}
+use Rattle.switch_paths.specs.Switching.{state_at}
+use Rattle.settling.specs.declared.settling.Settled.{Settled}
+use Rattle.settling.specs.Settling.{Settles}
 use Rattle.group_text.specs.Texts.{GroupTextData}
 use Rattle.circuit_texts.specs.declared.texts.BuildFault.{BuildFault}
 use Rattle.circuit_texts.specs.declared.texts.BuildFault.TheVariants as build

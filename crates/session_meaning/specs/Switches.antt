@@ -1,7 +1,7 @@
 -- Edits of a transistor that leave its terminals: what stands at its place afterwards, and when such an edit can't be done.
 use Rattle.std.specs.Prelude.{ℕ, option_map, Option, None}
 use Rattle.strength_order.specs.Levels.{level_of_strength}
-use Rattle.path_meaning.specs.declared.switching.Switch.{Switch}
+use Rattle.switch_paths.specs.declared.switching.Switch.{Switch}
 use Rattle.netlist.specs.declared.fault.EditFault.{EditFault}
 use Rattle.netlist.specs.Circuits.{CircuitData}
 use Rattle.netlist.specs.Edits.{number_fault, strength_fault, switch_numbered}

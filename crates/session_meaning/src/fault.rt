@@ -5,7 +5,7 @@ ghost use Rattle.session_meaning.specs.Sinks.{fault_of_sink};
 use circuit_texts::BuildFault;
 use netlist::EditFault;
 use node_words::VectorFault;
-use port_edge::PortFault;
+use ports::PortFault;
 use std::alloc::AllocError;
 use ternary::NoMemory;
 

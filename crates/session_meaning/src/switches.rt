@@ -1,6 +1,6 @@
 //! Edits of a transistor that leave its terminals.
 
-use path_meaning::SwitchKind;
+use switch_paths::SwitchKind;
 
 /// An edit of a transistor that leaves its terminals.
 pub enum SwitchEdit {

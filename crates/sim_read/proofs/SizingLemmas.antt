@@ -14,8 +14,8 @@ use Rattle.strength_order.specs.declared.TheConstants.{INPUT_LEVEL}
 use Rattle.strength_order.specs.declared.Profile.{Profile}
 use Rattle.strength_order.specs.declared.Profile.TheVariants.{One, Two}
 use Rattle.strength_order.specs.Levels.{IsLevel}
-use Rattle.path_meaning.specs.Graphs.{FitsPlace, is_storage_level, level_of, nodes}
-use Rattle.path_meaning.specs.declared.TheConstants.{GND, VDD}
+use Rattle.switch_paths.specs.Graphs.{FitsPlace, is_storage_level, level_of, nodes}
+use Rattle.switch_paths.specs.declared.TheConstants.{GND, VDD}
 use Rattle.netlist.specs.Circuits.{CircuitData, IsCircuit}
 use Rattle.netlist.specs.Edits.{with_store}
 use Rattle.sim_read.specs.declared.header.TheConstants.{MOST_THRESHOLDS}

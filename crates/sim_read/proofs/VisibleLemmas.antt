@@ -2,9 +2,9 @@
 use Rattle.std.proofs.Common.{◌≡◌, ℕ, Bool, true, false, ◌==◌, All, List, [], ◌∷◌, ◌++◌, codes, Option, Some, None, IfSome, is_some, unwrap_or, refl}
 use Rattle.std.specs.Prelude.{if◌then◌else◌}
 use Rattle.std.proofs.lemmas.List.Elements.{All-head, All-tail, All-push}
-use Rattle.path_meaning.specs.Graphs.{nodes}
+use Rattle.switch_paths.specs.Graphs.{nodes}
 use Rattle.line_words.proofs.VisibleLemmas.{words_of-visible}
-use Rattle.path_meaning.specs.declared.TheConstants.{GND, VDD}
+use Rattle.switch_paths.specs.declared.TheConstants.{GND, VDD}
 use Rattle.netlist.specs.Names.{first_name, name_at, node_of}
 use Rattle.netlist.specs.Circuits.{CircuitData, IsCircuit, HasVisibleNames}
 use Rattle.netlist.specs.Edits.{with_alias, with_alias_by, with_name_of, with_new_node, with_node, with_nodes}

@@ -4,7 +4,7 @@ use Rattle.std.specs.List.{range_with_len}
 use Rattle.strength_order.specs.declared.Profile.{Profile}
 use Rattle.strength_order.specs.declared.Profile.TheVariants.{One, Two}
 use Rattle.strength_order.specs.Levels.{level_of_size}
-use Rattle.path_meaning.specs.Graphs.{is_storage_level, level_of, nodes}
+use Rattle.switch_paths.specs.Graphs.{is_storage_level, level_of, nodes}
 use Rattle.netlist.specs.Circuits.{CircuitData, rails_alone}
 use Rattle.sim_read.specs.declared.fault.NetRefusal.{NetRefusal}
 use Rattle.sim_read.specs.Capacitances.{NameSums, added_among, is_of, size_by}

@@ -1,6 +1,6 @@
 -- The records of a .sim netlist, by the first word of their lines.
 use Rattle.std.specs.Prelude.{ℕ, ◌||◌, List, codes, bytes_eq, Option, Some, None, if◌then◌else◌}
-use Rattle.path_meaning.specs.declared.switching.SwitchKind.TheVariants.{NChan, PChan, Always}
+use Rattle.switch_paths.specs.declared.switching.SwitchKind.TheVariants.{NChan, PChan, Always}
 use Rattle.sim_read.specs.declared.records.Record.{Record}
 use Rattle.sim_read.specs.declared.records.Record.TheVariants.{Transistor, Alias, Attributes, Capacitance, Passed}
 

@@ -1,7 +1,7 @@
 //! The readers of a line of a netlist, and of each kind of record.
 
 ghost use Rattle.std.specs.Prelude.{◌≡◌, ◌<◌, ◌≤◌, ◌+◌, ◌*◌, ◌^◌, false, length, Ok, Err, Some, None, IfOk, IfErr, IfSome, OnOk};
-ghost use Rattle.path_meaning.specs.Graphs.{nodes};
+ghost use Rattle.switch_paths.specs.Graphs.{nodes};
 ghost use Rattle.netlist.specs.Words.{rails_alone, node_named, with_node};
 ghost use Rattle.sim_read.specs.Words.{all_added, with_line, rails_draft, sized, with_mark, IsAccepted, IsFault};
 ghost use Rattle.sim_read.specs.Header as header;
@@ -15,10 +15,10 @@ use crate::sizing::size_nodes;
 use crate::sums::Sums;
 use line_words::{LineFault, MOST_THOUSANDTHS, Words, check_line, is_comment, thousandths, words};
 use netlist::{Circuit, RAILS, usual_strength};
-use path_meaning::SwitchKind;
 use std::alloc::Global;
 use std::marker::Model;
 use strength_order::Profile;
+use switch_paths::SwitchKind;
 use table_keys::TableKeys;
 use ternary::{NoMemory, Unmade};
 

@@ -1,7 +1,7 @@
 ghost use Rattle.std.specs.Prelude.{◌≡◌};
 ghost use Rattle.sim_read.specs.Records as spec;
 
-use path_meaning::SwitchKind;
+use switch_paths::SwitchKind;
 
 /// What a line of a netlist is, by its first word.
 #[derive(Clone, Copy, PartialEq, Eq)]

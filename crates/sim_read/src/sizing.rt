@@ -2,7 +2,7 @@
 
 ghost use Rattle.std.specs.Prelude.{◌≡◌, ◌≤◌, ◌<◌, ◌^◌, ◌&&◌, not, if◌then◌else◌, length, OnOk};
 ghost use Rattle.strength_order.specs.declared.Profile.TheVariants.{Two};
-ghost use Rattle.path_meaning.specs.Graphs.{is_storage_level, level_of, nodes};
+ghost use Rattle.switch_paths.specs.Graphs.{is_storage_level, level_of, nodes};
 ghost use Rattle.netlist.specs.Edits.{with_store};
 ghost use Rattle.sim_read.specs.Words.{all_added, sized_in};
 ghost use Rattle.sim_read.specs.Capacitances as spec;

@@ -1,7 +1,7 @@
 //! What `C` lines added to names, and what comes of it to each node.
 
 ghost use Rattle.std.specs.Prelude.{◌≡◌, ◌≤◌, ◌<◌, ◌+◌, ◌*◌, ◌^◌, [], ℕ, length, slice_index, slice_set, IfOk, IfNone, IfSome, OnOk, OnErr};
-ghost use Rattle.path_meaning.specs.Graphs.{nodes};
+ghost use Rattle.switch_paths.specs.Graphs.{nodes};
 ghost use Rattle.sim_read.specs.Capacitances.{added_among, all_added, is_of, with_both, with_more};
 
 use indexmap::IndexMap;

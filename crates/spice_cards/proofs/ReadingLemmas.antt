@@ -2,7 +2,7 @@
 use Rattle.std.proofs.Common.{◌≡◌, ℕ, ◌+◌, ◌-◌, ◌<◌, ◌≤◌, Bool, true, false, List, [], ◌∷◌, ◌++◌, All, length, map, take, drop, Option, Some, None, Result, Ok, Err, OnOk, OnErr, is_some, option_map, bytes_eq, if◌then◌else◌, refl, sym, ◌∙◌, ap, subst, arith, length-append, length-drop}
 use Rattle.std.proofs.lemmas.List.{append-nil, drop-append-le, length-take-le, drop_at, map-append, take-append-le, take_rest}
 use Rattle.std.proofs.lemmas.List.Elements.{All-head, All-push, All-tail, All-weaker}
-use Rattle.path_meaning.specs.declared.switching.SwitchKind.{SwitchKind}
+use Rattle.switch_paths.specs.declared.switching.SwitchKind.{SwitchKind}
 use Rattle.spice_cards.specs.declared.places.SubcircuitPlace.{SubcircuitPlace}
 use Rattle.spice_cards.specs.declared.sorts.PartSort.{PartSort}
 use Rattle.spice_cards.specs.CardLines.{head_of}

@@ -1,6 +1,6 @@
 -- Worked decks, computed from the definitions.
 use Rattle.std.proofs.Common.{◌≡◌, ℕ, List, [], ◌∷◌, ◌++◌, codes, Ok, Err, refl, None}
-use Rattle.path_meaning.specs.declared.switching.SwitchKind.TheVariants.{NChan}
+use Rattle.switch_paths.specs.declared.switching.SwitchKind.TheVariants.{NChan}
 use Rattle.spice_cards.specs.declared.fault.DeckWhat.TheVariants.{BadCard, BadNesting}
 use Rattle.spice_cards.specs.declared.sorts.PartSort.TheVariants.{Transistor, Call}
 use Rattle.spice_cards.specs.declared.sorts.Strength.TheVariants.{Usual}

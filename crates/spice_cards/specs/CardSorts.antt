@@ -1,8 +1,8 @@
 -- What a card is by its first word, and which of its words count.
 use Rattle.std.specs.Prelude.{ℕ, Bool, true, false, ◌==◌, ◌||◌, ◌&&◌, not, List, [], ◌∷◌, take, drop, length, filter, codes, bytes_eq, nat_le, Option, Some, None, if◌then◌else◌}
 use Rattle.std.specs.List.{before_first, list_any}
-use Rattle.path_meaning.specs.declared.switching.SwitchKind.{SwitchKind}
-use Rattle.path_meaning.specs.declared.switching.SwitchKind.TheVariants.{NChan, PChan}
+use Rattle.switch_paths.specs.declared.switching.SwitchKind.{SwitchKind}
+use Rattle.switch_paths.specs.declared.switching.SwitchKind.TheVariants.{NChan, PChan}
 use Rattle.line_words.specs.Decimals.{decimal_of}
 use Rattle.spice_cards.specs.declared.sorts.CardSort.{CardSort}
 use Rattle.spice_cards.specs.declared.sorts.CardSort.TheVariants.{Transistor, Call, Opening, Closing, Model, Globals, Passed, Bad}

@@ -1,6 +1,6 @@
 -- A deck as contracts see it: the parts outside subcircuits, the subcircuits, the models and the global names.
 use Rattle.std.specs.Prelude.{ℕ, List, [], ◌∷◌, ◌++◌, drop, bytes_eq, Option, Some, None, if◌then◌else◌}
-use Rattle.path_meaning.specs.declared.switching.SwitchKind.{SwitchKind}
+use Rattle.switch_paths.specs.declared.switching.SwitchKind.{SwitchKind}
 use Rattle.spice_cards.specs.declared.sorts.PartSort.{PartSort}
 
 -- a part: its line, what it is, and the words of its card that count. Those of a transistor are its name, drain, gate, source, bulk and

@@ -7,7 +7,7 @@ use Rattle.line_words.specs.Lines.{lines_of}
 use Rattle.line_words.specs.Files.{front_of, cut_line, is_cut}
 use Rattle.ternary.specs.declared.unmade.Unmade.{Unmade}
 use Rattle.ternary.specs.declared.unmade.Unmade.TheVariants.{Refused, NoMemory}
-use Rattle.path_meaning.specs.declared.switching.SwitchKind.{SwitchKind}
+use Rattle.switch_paths.specs.declared.switching.SwitchKind.{SwitchKind}
 use Rattle.spice_cards.specs.declared.fault.DeckRefusal.{DeckRefusal}
 use Rattle.spice_cards.specs.declared.fault.DeckWhat.{DeckWhat}
 use Rattle.spice_cards.specs.declared.fault.DeckWhat.TheVariants.{TooLong, LineTooLong, BadCard, FewWords, BadNesting, Redefined}

@@ -1,6 +1,6 @@
 -- What was read of a deck, as it is kept: subcircuits by the places of their cards.
 use Rattle.std.specs.Prelude.{◌≡◌, ⊤, ℕ, ◌-◌, ◌<◌, ◌≤◌, Bool, List, [], ◌∷◌, All, length, map, take, drop, Option, Some, None}
-use Rattle.path_meaning.specs.declared.switching.SwitchKind.{SwitchKind}
+use Rattle.switch_paths.specs.declared.switching.SwitchKind.{SwitchKind}
 use Rattle.spice_cards.specs.declared.places.SubcircuitPlace.{SubcircuitPlace}
 use Rattle.spice_cards.specs.CardLines.{head_of}
 use Rattle.spice_cards.specs.Decks.{DeckCards, PartCard, SubcircuitCards}

@@ -16,9 +16,9 @@ use crate::reading::Reading;
 use crate::sorts::is_end;
 use crate::words::Words;
 use line_words::{LONGEST_LINE, Lines, front, lines};
-use path_meaning::SwitchKind;
 use std::alloc::Global;
 use std::marker::Model;
+use switch_paths::SwitchKind;
 use table_keys::TableKeys;
 use ternary::{NoMemory, Unmade};
 

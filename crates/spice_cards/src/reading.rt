@@ -17,9 +17,9 @@ use crate::sorts::PartSort;
 use crate::table::Table;
 use crate::words::Words;
 use line_words::Lines;
-use path_meaning::SwitchKind;
 use std::alloc::Global;
 use std::marker::Model;
+use switch_paths::SwitchKind;
 use table_keys::TableKeys;
 use ternary::{NoMemory, Unmade};
 

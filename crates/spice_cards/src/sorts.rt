@@ -9,7 +9,7 @@ ghost use Rattle.spice_cards.specs.CardSorts as sorts;
 
 use crate::fault::DeckWhat;
 use line_words::{LONGEST_LINE, decimal, words};
-use path_meaning::SwitchKind;
+use switch_paths::SwitchKind;
 
 /// What a line is to the cards, by its first byte that isn't a space or a tab.
 #[derive(Clone, Copy)]

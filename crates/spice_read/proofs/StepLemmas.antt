@@ -1,7 +1,7 @@
 -- What is made of an expansion, part by part: what the first part comes to, and then what the others do.
 use Rattle.std.proofs.Common.{◌≡◌, ℕ, zero, suc, ◌-◌, List, [], ◌∷◌, ◌++◌, Some, Result, Ok, Err, refl, sym, ◌∙◌, ap, arith}
 use Rattle.std.specs.List.{flat_map}
-use Rattle.path_meaning.specs.declared.switching.SwitchKind.{SwitchKind}
+use Rattle.switch_paths.specs.declared.switching.SwitchKind.{SwitchKind}
 use Rattle.ternary.specs.declared.unmade.Unmade.{Unmade}
 use Rattle.ternary.specs.declared.unmade.Unmade.TheVariants.{Refused, NoMemory}
 use Rattle.ternary.specs.Unmade.{IsFault}

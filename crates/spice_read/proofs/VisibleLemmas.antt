@@ -4,9 +4,9 @@ use Rattle.std.specs.List.{flat_map, list_any, zip}
 use Rattle.std.proofs.lemmas.Bool.Decides.{nat_tests}
 use Rattle.std.proofs.lemmas.List.Elements.{All-nil, All-cons, All-append, All-drop, All-head, All-map, All-tail, All-take}
 use Rattle.strength_order.specs.declared.Profile.TheVariants.{One}
-use Rattle.path_meaning.specs.declared.switching.SwitchKind.{SwitchKind}
-use Rattle.path_meaning.specs.declared.TheConstants.{GND, VDD}
-use Rattle.path_meaning.specs.Graphs.{nodes}
+use Rattle.switch_paths.specs.declared.switching.SwitchKind.{SwitchKind}
+use Rattle.switch_paths.specs.declared.TheConstants.{GND, VDD}
+use Rattle.switch_paths.specs.Graphs.{nodes}
 use Rattle.line_words.specs.Bytes.{first_visible, last_visible}
 use Rattle.line_words.specs.Visible.{IsVisibleName}
 use Rattle.netlist.specs.Circuits.{CircuitData, HasVisibleNames, IsCircuit, rails_alone}

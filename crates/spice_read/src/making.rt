@@ -9,11 +9,11 @@ ghost use Rattle.spice_read.specs.Steps.{Step};
 
 use crate::expansion::MOST_CALLS;
 use netlist::{Circuit, EditFault};
-use path_meaning::SwitchKind;
 use spice_cards::{DeckFault, DeckRefusal, DeckWhat};
 use std::alloc::Global;
 use std::marker::Model;
 use strength_order::Profile;
+use switch_paths::SwitchKind;
 use table_keys::TableKeys;
 use ternary::{NoMemory, Unmade};
 

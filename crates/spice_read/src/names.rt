@@ -6,8 +6,8 @@ ghost use Rattle.spice_read.specs.Scopes as spec;
 ghost use Rattle.spice_read.specs.Steps as steps;
 
 use netlist::usual_strength;
-use path_meaning::SwitchKind;
 use spice_cards::{Deck, Strength, Words};
+use switch_paths::SwitchKind;
 
 /// The node of a name outside every call: `0` is Gnd, and each other name stands for itself.
 pub(crate) fn fixed_node(name: &[u8]) -> &[u8]

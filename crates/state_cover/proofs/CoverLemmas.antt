@@ -7,9 +7,9 @@ use Rattle.std.proofs.lemmas.List.{ext_get_or, take_all, get_or-append_right, ge
 use Rattle.std.proofs.Math.ListN.{get_or-append}
 use Rattle.ternary.specs.declared.tern.Tern.{Tern}
 use Rattle.ternary.specs.declared.tern.Tern.TheVariants.{Zero, One, Unk}
-use Rattle.path_meaning.specs.Switching.{state_at}
-use Rattle.oscillation_x.specs.Moved.{IsGrown, ListsChanges}
-use Rattle.oscillation_x.proofs.NumbersLemmas.{shift}
+use Rattle.switch_paths.specs.Switching.{state_at}
+use Rattle.settling.specs.Moved.{IsGrown, ListsChanges}
+use Rattle.settling.proofs.NumbersLemmas.{shift}
 use Rattle.state_cover.specs.declared.had.Had.{Had}
 use Rattle.state_cover.specs.Cover.{none_had, had_more, had_after, had_at, Knows, Notes}
 

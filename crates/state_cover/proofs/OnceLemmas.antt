@@ -2,7 +2,7 @@
 use Rattle.std.proofs.Common.{◌≡◌, List, [], ◌∷◌, refl, ap, ◌∙◌}
 use Rattle.ternary.specs.declared.tern.Tern.{Tern}
 use Rattle.ternary.specs.declared.tern.Tern.TheVariants.{Zero, One, Unk}
-use Rattle.oscillation_x.specs.Passing.{see_all}
+use Rattle.settling.specs.Passing.{see_all}
 use Rattle.state_cover.specs.declared.had.Had.{Had}
 use Rattle.state_cover.specs.Cover.{none_had, had_more, had_after}
 use Rattle.state_cover.proofs.CoverLemmas.{had_more-twice}

@@ -2,13 +2,13 @@
 use Rattle.std.proofs.Common.{◌≡◌, ℕ, zero, suc, ◌+◌, ◌-◌, ◌<◌, ◌≤◌, List, [], ◌∷◌, ◌++◌, length, Option, Some, Result, Ok, Err, OnOk, OnErr, is_ok, true, true≢false, refl, sym, ◌∙◌, ap, arith, append_assoc, append-nil, subst}
 use Rattle.std.specs.Prelude.{drop, unwrap_or}
 use Rattle.std.specs.Io.KnownBytes.{append_known}
-use Rattle.port_edge.specs.Sending.{Sends, WritesPart}
-use Rattle.port_edge.proofs.SendingLemmas.{sends_more, sends_part, last_sent}
-use Rattle.path_meaning.specs.Graphs.{nodes}
-use Rattle.path_meaning.specs.declared.TheConstants.{RAILS}
+use Rattle.ports.specs.Sending.{Sends, WritesPart}
+use Rattle.ports.proofs.SendingLemmas.{sends_more, sends_part, last_sent}
+use Rattle.switch_paths.specs.Graphs.{nodes}
+use Rattle.switch_paths.specs.declared.TheConstants.{RAILS}
 use Rattle.netlist.specs.Circuits.{CircuitData, called}
 use Rattle.netlist.specs.Names.{name_at}
-use Rattle.oscillation_x.specs.PlainStepping.{numbers_from}
+use Rattle.settling.specs.PlainStepping.{numbers_from}
 use Rattle.state_cover.specs.declared.had.Had.{Had}
 use Rattle.state_cover.specs.Cover.{had_at}
 use Rattle.state_cover.specs.Lines.{node_line_of, node_lines_of, counts_line_of, cover_text}

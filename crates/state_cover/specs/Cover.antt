@@ -2,7 +2,7 @@
 use Rattle.std.specs.Prelude.{◌≡◌, ℕ, ◌<◌, true, false, List, [], ◌∷◌, length, slice_index_or}
 use Rattle.ternary.specs.declared.tern.Tern.{Tern}
 use Rattle.ternary.specs.declared.tern.Tern.TheVariants.{Zero, One, Unk}
-use Rattle.path_meaning.specs.Switching.{state_at}
+use Rattle.switch_paths.specs.Switching.{state_at}
 use Rattle.state_cover.specs.declared.had.Had.{Had}
 
 -- a node that had nothing yet

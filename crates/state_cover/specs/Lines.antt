@@ -1,9 +1,9 @@
 -- The lines that tell what each node never had.
 use Rattle.std.specs.Prelude.{ℕ, ◌-◌, Bool, ◌&&◌, ◌||◌, not, List, [], ◌++◌, length, count_by, drop, flat_map, codes, decimal, if◌then◌else◌}
-use Rattle.path_meaning.specs.Graphs.{nodes}
-use Rattle.path_meaning.specs.declared.TheConstants.{RAILS}
+use Rattle.switch_paths.specs.Graphs.{nodes}
+use Rattle.switch_paths.specs.declared.TheConstants.{RAILS}
 use Rattle.netlist.specs.Circuits.{CircuitData, called}
-use Rattle.oscillation_x.specs.PlainStepping.{numbers_from}
+use Rattle.settling.specs.PlainStepping.{numbers_from}
 use Rattle.state_cover.specs.declared.had.Had.{Had}
 use Rattle.state_cover.specs.Cover.{had_at}
 

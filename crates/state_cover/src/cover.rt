@@ -4,7 +4,7 @@ ghost use Rattle.state_cover.specs.Cover.{none_had, had_after, Knows, Notes};
 ghost use Rattle.state_cover.specs.declared.had.Had.{Had};
 
 use crate::had::{Had, had_more};
-use oscillation_x::{Moved, Never, Observer, Onlooker, unfailing};
+use settling::{Moved, Never, Observer, Onlooker, unfailing};
 use std::alloc::{AllocError, Global};
 use std::marker::Model;
 use ternary::{NoMemory, Tern};

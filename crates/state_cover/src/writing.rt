@@ -1,10 +1,10 @@
 //! The lines that tell what each node never had.
 ghost use Rattle.std.specs.Prelude.{◌≡◌, ◌≤◌, [], ◌++◌, length, drop, count_by, codes, decimal, OnOk, OnErr};
 ghost use Rattle.std.specs.Io.KnownBytes.{append_known};
-ghost use Rattle.path_meaning.specs.Graphs.{nodes};
-ghost use Rattle.path_meaning.specs.declared.TheConstants.{RAILS};
-ghost use Rattle.port_edge.specs.Ports.{RefusedOnce, faults_after};
-ghost use Rattle.port_edge.specs.Sending.{WritesPart};
+ghost use Rattle.switch_paths.specs.Graphs.{nodes};
+ghost use Rattle.switch_paths.specs.declared.TheConstants.{RAILS};
+ghost use Rattle.ports.specs.Ports.{RefusedOnce, faults_after};
+ghost use Rattle.ports.specs.Sending.{WritesPart};
 ghost use Rattle.state_cover.specs.Cover.{had_at};
 ghost use Rattle.state_cover.specs.Lines as spec;
 ghost use Rattle.state_cover.specs.Lines.{cover_text, node_line_of, counts_of, counts_line_of, never_of};
@@ -13,7 +13,7 @@ use crate::cover::Cover;
 use crate::had::Had;
 use itoa::Buffer;
 use netlist::{Circuit, RAILS};
-use port_edge::{PortFault, Sink, send};
+use ports::{PortFault, Sink, send};
 use std::alloc::{AllocError, Global};
 
 /// Writes the cover of a circuit: a line for each node but the rails that lacks something, by

@@ -1,5 +1,5 @@
 ghost use Rattle.std.specs.Prelude.{◌≡◌, ℕ, ◌+◌, ◌*◌, ◌<◌, ◌≤◌, Bool, length, map, All, IfOk};
-ghost use Rattle.path_meaning.specs.Switching.{state_at};
+ghost use Rattle.switch_paths.specs.Switching.{state_at};
 ghost use Rattle.straight_code.specs.Flat.{IsFlat};
 ghost use Rattle.straight_code.specs.Code.{IsCode, operand_value, instruction_value, settled, output_state, code_value, IsAllowed, AreAllowed, IsOutput};
 

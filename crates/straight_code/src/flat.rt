@@ -5,7 +5,7 @@
 //! an operand is.
 
 ghost use Rattle.std.specs.Prelude.{◌≡◌, ◌+◌, ◌*◌, ◌<◌, ◌≤◌, ◌^◌, [], length, map, take, All, IfOk};
-ghost use Rattle.path_meaning.specs.Switching.{state_at};
+ghost use Rattle.switch_paths.specs.Switching.{state_at};
 ghost use Rattle.straight_code.specs.Code.{settled, IsAllowed, AreAllowed, IsOutput, IsCode, ReadsEarlier};
 ghost use Rattle.straight_code.specs.Flat.{IsFlat, place_of, step_of, pair_of, kind_value, step_value, pair_value, flat_values};
 

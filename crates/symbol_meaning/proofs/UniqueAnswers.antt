@@ -3,13 +3,13 @@ use Rattle.std.proofs.Common.{◌≡◌, ℕ, ◌<◌, ◌⊎◌, inl, inr, Bool
 use Rattle.std.proofs.lemmas.Nat.{pow_pos}
 use Rattle.std.proofs.lemmas.List.{ext_get_or}
 use Rattle.ternary.specs.declared.tern.Tern.{Tern}
-use Rattle.path_meaning.specs.Switching.{state_at}
-use Rattle.path_meaning.specs.declared.switching.SwitchKind.{SwitchKind}
-use Rattle.path_meaning.specs.declared.switching.SwitchState.{SwitchState}
+use Rattle.switch_paths.specs.Switching.{state_at}
+use Rattle.switch_paths.specs.declared.switching.SwitchKind.{SwitchKind}
+use Rattle.switch_paths.specs.declared.switching.SwitchState.{SwitchState}
 use Rattle.group_text.specs.Texts.{GroupTextData}
 use Rattle.vector_values.specs.Values.{Letter}
 use Rattle.node_values.specs.Givings.{is_vector}
-use Rattle.wave_print.specs.declared.looks.SwitchTold.{SwitchTold}
+use Rattle.printed_lines.specs.declared.looks.SwitchTold.{SwitchTold}
 use Rattle.told_lines.specs.Lines as of_one
 use Rattle.told_lines.specs.Lines.{Line}
 use Rattle.session_meaning.specs.Sessions.{SessionData}

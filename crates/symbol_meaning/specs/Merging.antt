@@ -2,12 +2,12 @@
 -- under the valuation with the number c.
 use Rattle.std.specs.Prelude.{◌≡◌, ◌≢◌, ◌↔◌, ℕ, ◌<◌, ◌≤◌, Bool, true, false, List, [], ◌∷◌, ◌++◌, length, map, slice_index_or, Option, Some, None}
 use Rattle.ternary.specs.declared.tern.Tern.{Tern}
-use Rattle.path_meaning.specs.Switching.{state_at}
+use Rattle.switch_paths.specs.Switching.{state_at}
 use Rattle.vector_values.specs.Values.{Letter}
 use Rattle.node_values.specs.Givings.{is_vector}
-use Rattle.wave_print.specs.Lines.{wanted_letter}
-use Rattle.wave_print.specs.declared.looks.NodeSort.{NodeSort}
-use Rattle.wave_print.specs.declared.looks.SwitchTold.{SwitchTold}
+use Rattle.printed_lines.specs.Lines.{wanted_letter}
+use Rattle.printed_lines.specs.declared.looks.NodeSort.{NodeSort}
+use Rattle.printed_lines.specs.declared.looks.SwitchTold.{SwitchTold}
 use Rattle.told_lines.specs.Lines as of_one
 use Rattle.told_lines.specs.Lines.{Line}
 use Rattle.symbol_lines.specs.declared.items.Item.{Item}

@@ -4,8 +4,8 @@ use Rattle.std.specs.Prelude.{◌≡◌, ℕ, ◌<◌, Bool, false, List, [], �
 use Rattle.std.specs.List.{list_any}
 use Rattle.group_text.specs.Texts.{GroupTextData}
 use Rattle.script_lang.specs.declared.command.ScriptFault.{ScriptFault}
-use Rattle.wave_print.specs.declared.faults.FaultPlace.TheVariants.{Script}
-use Rattle.wave_print.specs.Faults.{place_of}
+use Rattle.printed_lines.specs.declared.faults.FaultPlace.TheVariants.{Script}
+use Rattle.printed_lines.specs.Faults.{place_of}
 use Rattle.told_lines.specs.Lines.{Line}
 use Rattle.run_ends.specs.declared.status.Status.{Status}
 use Rattle.run_ends.specs.declared.status.Status.TheVariants.{Done, Mismatch, ScriptRefused}

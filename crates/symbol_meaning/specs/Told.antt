@@ -3,11 +3,11 @@ use Rattle.std.specs.Prelude.{ℕ, Bool, true, false, List, [], ◌∷◌, ◌++
 use Rattle.std.specs.List.{flat_map}
 use Rattle.ternary.specs.declared.tern.Tern.{Tern}
 use Rattle.ternary.specs.Tern.{letter}
-use Rattle.path_meaning.specs.declared.switching.SwitchKind.{SwitchKind}
-use Rattle.path_meaning.specs.declared.switching.SwitchState.{SwitchState}
-use Rattle.wave_print.specs.declared.looks.NodeSort.{NodeSort}
-use Rattle.wave_print.specs.Lines.{mark_of}
-use Rattle.wave_print.specs.Looks.{kind_text, sort_text, switch_state_text}
+use Rattle.switch_paths.specs.declared.switching.SwitchKind.{SwitchKind}
+use Rattle.switch_paths.specs.declared.switching.SwitchState.{SwitchState}
+use Rattle.printed_lines.specs.declared.looks.NodeSort.{NodeSort}
+use Rattle.printed_lines.specs.Lines.{mark_of}
+use Rattle.printed_lines.specs.Looks.{kind_text, sort_text, switch_state_text}
 
 -- a transistor that is looked at: its number, its kind and its strength, and the state of its switch that it has under all valuations, if it has one
 pub record SwitchOfAll : Type 0 where

@@ -1,6 +1,6 @@
 -- A conversation: each line is answered before the next one is asked for.
 use Rattle.std.specs.Prelude.{◌≡◌, ℕ, ◌-◌, ◌^◌, true, false, Bool, List, [], ◌∷◌, ◌++◌, length, take, Option, option_map, Result, Ok, Err}
-use Rattle.port_edge.specs.Ports.{faults_at}
+use Rattle.ports.specs.Ports.{faults_at}
 use Rattle.talk_port.specs.declared.conversing.Broken.{Broken}
 use Rattle.talk_port.specs.declared.conversing.Broken.TheVariants.{Unheard, Unsaid}
 use Rattle.talk_port.specs.Talks.{kept_bytes, Turn, TalkData, said_next, heard_next, heard_end}

@@ -1,8 +1,8 @@
 -- A talk over a reader and an outlet: what is heard comes from the reader, and what is said goes to the outlet.
 use Rattle.std.specs.Prelude.{◌≡◌, ◌≢◌, ℕ, ◌<◌, Bool, true, false, List, [], ◌∷◌, ◌++◌, length, take, Option, None, Some, nat_lt, if◌then◌else◌}
 use Rattle.std.specs.Io.KnownBytes.{Appends, Consumes, IsAtEnd}
-use Rattle.port_edge.specs.Ports.{faults_at, refusals_at}
-use Rattle.port_edge.specs.declared.ports.PortFault.{PortFault}
+use Rattle.ports.specs.Ports.{faults_at, refusals_at}
+use Rattle.ports.specs.declared.ports.PortFault.{PortFault}
 use Rattle.talk_port.specs.Talks.{kept_bytes}
 
 -- what is left to be heard, what the outlet took, and what of it was handed on, each if that is told; how many bytes were said and not handed on; how

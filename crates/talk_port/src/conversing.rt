@@ -1,11 +1,11 @@
 //! The loop of a talk.
 ghost use Rattle.std.specs.Prelude.{◌≡◌, ℕ, Bool, List, Option, not, IfOk, OnOk, OnErr};
-ghost use Rattle.port_edge.specs.Ports.{faults_after};
+ghost use Rattle.ports.specs.Ports.{faults_after};
 ghost use Rattle.talk_port.specs.Talks.{TalkData, Hears};
 ghost use Rattle.talk_port.specs.Conversing.{Answers, Converses, BreaksOff, unheard_after, unsaid_after};
 
 use crate::talks::Talk;
-use port_edge::PortFault;
+use ports::PortFault;
 
 /// Who answers lines at a port.
 ///

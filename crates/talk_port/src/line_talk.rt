@@ -1,14 +1,14 @@
 //! A talk over a reader and an outlet.
 ghost use Rattle.std.specs.Prelude.{◌≡◌, [], ℕ, ◌+◌, ◌≤◌, ◌<◌, ◌^◌, None, Some, drop, take, length, vec_len, IfOk, OnOk, OnErr};
 ghost use Rattle.std.specs.Io.KnownBytes.{Keeps, Appends, prepend_known};
-ghost use Rattle.port_edge.specs.Ports.{faults_after, refusals_after};
+ghost use Rattle.ports.specs.Ports.{faults_after, refusals_after};
 ghost use Rattle.talk_port.specs.LineTalks.{LineTalkData, talk_counted, unheard_counted, HearsKept, TakesByte, kept_more, SaysPrefix};
 ghost use Rattle.talk_port.specs.Talks.{Hears, SaysPart};
 
 use crate::ahead::Ahead;
 use crate::outlet::Flush;
 use crate::talks::{KEPT_BYTES, Talk};
-use port_edge::{NotedFile, PortFault};
+use ports::{NotedFile, PortFault};
 use std::alloc::{AllocError, Global};
 use std::io;
 use std::io::{ErrorKind, Read};

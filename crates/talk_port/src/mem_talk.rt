@@ -1,11 +1,11 @@
 //! A talk in memory.
 ghost use Rattle.std.specs.Prelude.{◌≡◌, ◌<◌, true, Some, length, map, take, IfOk, OnErr, OnOk};
-ghost use Rattle.port_edge.specs.Ports.{faults_after};
+ghost use Rattle.ports.specs.Ports.{faults_after};
 ghost use Rattle.talk_port.specs.MemTalks.{HearsNext, mem_refused, turn_of, unheard};
 ghost use Rattle.talk_port.specs.Talks.{kept_bytes, said_next, Hears};
 
 use crate::talks::{KEPT_BYTES, Talk};
-use port_edge::PortFault;
+use ports::PortFault;
 use std::alloc::{AllocError, Global};
 use std::marker::Model;
 

@@ -2,7 +2,7 @@
 ghost use Rattle.std.specs.Prelude.{◌≡◌, ℕ, List, Option, None, Some, OnOk};
 ghost use Rattle.std.specs.Io.KnownBytes.{Keeps};
 
-use port_edge::Outlet;
+use ports::Outlet;
 use std::io;
 use std::io::Write;
 

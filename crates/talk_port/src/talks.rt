@@ -1,9 +1,9 @@
 //! The port of a talk.
 ghost use Rattle.std.specs.Prelude.{◌≡◌, ℕ, Bool, List, Option, option_map, IfOk, OnOk, OnErr};
-ghost use Rattle.port_edge.specs.Ports.{faults_after, refusals_after};
+ghost use Rattle.ports.specs.Ports.{faults_after, refusals_after};
 ghost use Rattle.talk_port.specs.Talks.{TalkData, Hears, SaysPart, said_next};
 
-use port_edge::{NotedFile, PortFault};
+use ports::{NotedFile, PortFault};
 
 /// How many bytes of a line are kept, its LF not counted: as many as tell what is wrong with it.
 pub const KEPT_BYTES: usize = 65_538;

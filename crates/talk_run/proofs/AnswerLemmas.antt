@@ -3,8 +3,8 @@ use Rattle.std.proofs.Common.{◌≡◌, ℕ, ◌⊎◌, inl, inr, Bool, not, Li
 use Rattle.ternary.specs.Counts.{raised}
 use Rattle.line_words.specs.Lines.{without_return}
 use Rattle.netlist.specs.Names.{node_of}
-use Rattle.wave_print.specs.declared.faults.FaultPlace.TheVariants.{Heard}
-use Rattle.wave_print.specs.declared.faults.FaultCode.{FaultCode}
+use Rattle.printed_lines.specs.declared.faults.FaultPlace.TheVariants.{Heard}
+use Rattle.printed_lines.specs.declared.faults.FaultCode.{FaultCode}
 use Rattle.run_ends.specs.Causes.{plain_cause, cause_line}
 use Rattle.group_text.specs.Texts.{GroupTextData}
 use Rattle.session_meaning.specs.Sessions.{SessionData}

@@ -8,8 +8,8 @@ use Rattle.circuit_texts.specs.Sizes.{TellsRefused}
 use Rattle.talk_port.specs.Talks.{TalkData, SaysPart, said_next}
 use Rattle.told_lines.specs.Lines.{Line, text_of}
 use Rattle.told_lines.specs.Hearing.{of_column}
-use Rattle.wave_print.specs.declared.faults.FaultPlace.TheVariants.{Heard}
-use Rattle.wave_print.specs.declared.faults.FaultCode.{FaultCode}
+use Rattle.printed_lines.specs.declared.faults.FaultPlace.TheVariants.{Heard}
+use Rattle.printed_lines.specs.declared.faults.FaultCode.{FaultCode}
 use Rattle.session_meaning.specs.Sessions.{SessionData}
 use Rattle.session_meaning.specs.Outcomes.{Keeps}
 use Rattle.run_ends.specs.declared.stop.Stop.{Stop}

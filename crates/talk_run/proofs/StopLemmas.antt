@@ -1,6 +1,6 @@
 -- What stops a talk counts as the fault that broke it off.
 use Rattle.std.proofs.Common.{◌≡◌, ℕ, Err, refl}
-use Rattle.port_edge.specs.declared.ports.PortFault.TheVariants.{Failed, NoMemory}
+use Rattle.ports.specs.declared.ports.PortFault.TheVariants.{Failed, NoMemory}
 use Rattle.talk_port.specs.Conversing.{unheard_after, unsaid_after}
 use Rattle.talk_port.specs.declared.conversing.Broken.{Broken}
 use Rattle.talk_port.specs.declared.conversing.Broken.TheVariants.{Unheard, Unsaid}

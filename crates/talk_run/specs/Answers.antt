@@ -7,8 +7,8 @@ use Rattle.netlist.specs.Names.{node_of}
 use Rattle.group_text.specs.Texts.{GroupTextData}
 use Rattle.talk_port.specs.Talks.{TalkData}
 use Rattle.told_lines.specs.Lines.{text_of}
-use Rattle.wave_print.specs.declared.faults.FaultPlace.TheVariants.{Heard}
-use Rattle.wave_print.specs.declared.faults.FaultCode.TheVariants.{E1UnknownNode}
+use Rattle.printed_lines.specs.declared.faults.FaultPlace.TheVariants.{Heard}
+use Rattle.printed_lines.specs.declared.faults.FaultCode.TheVariants.{E1UnknownNode}
 use Rattle.session_meaning.specs.Sessions.{SessionData, start_of}
 use Rattle.run_ends.specs.Causes.{plain_cause, cause_line}
 use Rattle.script_meaning.specs.Runs.{Outcome, RefusedLine, Runs, plain_reading}

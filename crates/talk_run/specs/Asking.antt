@@ -3,8 +3,8 @@ use Rattle.std.specs.Prelude.{ℕ, Bool, true, false, List, [], ◌∷◌, ◌++
 use Rattle.line_words.specs.LineFaults.{line_fault, is_comment}
 use Rattle.line_words.specs.Lines.{without_return}
 use Rattle.line_words.specs.Words.{words_of}
-use Rattle.wave_print.specs.declared.faults.FaultCode.{FaultCode}
-use Rattle.wave_print.specs.declared.faults.FaultCode.TheVariants.{S2FewWords, S3ManyWords}
+use Rattle.printed_lines.specs.declared.faults.FaultCode.{FaultCode}
+use Rattle.printed_lines.specs.declared.faults.FaultCode.TheVariants.{S2FewWords, S3ManyWords}
 use Rattle.talk_run.specs.declared.asking.Asked as code
 use Rattle.talk_run.specs.declared.asking.Asked.TheVariants as code_is
 

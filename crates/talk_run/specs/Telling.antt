@@ -1,7 +1,7 @@
 -- Lines that are said at the port of a talk.
 use Rattle.std.specs.Prelude.{◌≡◌, ℕ, List, Option, option_map, ◌⊎◌, Result, Ok, Err}
-use Rattle.port_edge.specs.declared.ports.PortFault.{PortFault}
-use Rattle.port_edge.specs.declared.ports.PortFault.TheVariants.{Failed, NoMemory}
+use Rattle.ports.specs.declared.ports.PortFault.{PortFault}
+use Rattle.ports.specs.declared.ports.PortFault.TheVariants.{Failed, NoMemory}
 use Rattle.run_ends.specs.declared.stop.Stop.{Stop}
 use Rattle.run_ends.specs.declared.stop.Stop.TheVariants.{Read, Write, Memory}
 use Rattle.talk_port.specs.Talks.{TalkData, SaysPart, said_next}

@@ -3,7 +3,7 @@ ghost use Rattle.std.specs.Prelude.{◌≡◌};
 ghost use Rattle.talk_run.specs.Asking as spec;
 
 use line_words::{Words, check_line, is_comment, words};
-use wave_print::FaultCode;
+use printed_lines::FaultCode;
 
 /// What a line asks for.
 #[derive(Drop)]

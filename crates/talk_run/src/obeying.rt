@@ -8,7 +8,7 @@ use column_stage::PlainStage;
 use cosmos_session::Session;
 use group_analysis::Analyst;
 use line_words::Line;
-use port_edge::PortFault;
+use ports::PortFault;
 use run_ends::Stop;
 use script_meaning::Turn;
 use script_run::{Plain, run_line, size_cause};

@@ -7,11 +7,11 @@ use crate::teller::Teller;
 use column_stage::PlainStage;
 use cosmos_session::Session;
 use line_words::Words;
-use port_edge::PortFault;
+use ports::PortFault;
+use printed_lines::FaultCode;
 use script_reports::reasons_text;
 use std::alloc::{AllocError, Global};
 use talk_port::Talk;
-use wave_print::FaultCode;
 
 /// Says the two lines that explain the node of a name, or the refusal of the line with this number if it isn't in use.
 pub(crate) fn explain<M: PlainStage, T: Talk + Drop>(

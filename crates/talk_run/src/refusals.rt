@@ -1,19 +1,19 @@
 //! The line of a refusal in a talk.
 ghost use Rattle.std.specs.Prelude.{◌≡◌, []};
 ghost use Rattle.talk_run.specs.Words.{faults_after, fault_line_of, Tries};
-ghost use Rattle.wave_print.specs.declared.faults.FaultPlace.TheVariants.{Heard};
+ghost use Rattle.printed_lines.specs.declared.faults.FaultPlace.TheVariants.{Heard};
 
 use crate::teller::Teller;
 use column_stage::PlainStage;
 use cosmos_session::Session;
-use port_edge::PortFault;
+use ports::PortFault;
+use printed_lines::{COLUMN_ROOM, FAULT_LINE_ROOM, FaultCode, FaultPlace};
 use refusal_words::script_word;
 use script_run::note_line;
 use std::alloc::Global;
 use strength_order::INPUT_LEVEL;
 use talk_port::Talk;
 use told_lines::{Line, Lines};
-use wave_print::{COLUMN_ROOM, FAULT_LINE_ROOM, FaultCode, FaultPlace};
 
 /// Says the refusal of the line with this number under a code that names no group, and notes its cure with this word.
 pub(crate) fn refuse<T: Talk + Drop>(

@@ -12,7 +12,7 @@ use cosmos_session::Session;
 use group_analysis::Analyst;
 use line_words::{Line, without_return};
 use netlist::Circuit;
-use port_edge::PortFault;
+use ports::PortFault;
 use run_ends::{End, Stop};
 use script_run::end_of;
 use std::alloc::Global;

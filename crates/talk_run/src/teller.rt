@@ -1,13 +1,13 @@
 //! A hearer that says lines at the port of a talk.
 ghost use Rattle.std.specs.Prelude.{◌≡◌, IfOk};
 
-use port_edge::{NotedFile, PortFault};
+use ports::{NotedFile, PortFault};
+use printed_lines::LineBuf;
 use std::alloc::Global;
 use std::marker::Model;
 use talk_port::Talk;
 use ternary::NoMemory;
 use told_lines::{Line, Lines, put_told};
-use wave_print::LineBuf;
 
 /// A teller: it says each line at its port, behind the last line that was heard there.
 ///

@@ -3,8 +3,8 @@
 use Rattle.std.proofs.Common.{◌≡◌, ℕ, Bool, inl, inr, List, [], ◌∷◌, ◌++◌, length, Option, refl, sym, ap, ap₂, subst, ◌∙◌, append-nil}
 use Rattle.std.specs.Prelude.{◌⊎◌, Result, Ok, Err, OnOk, OnErr}
 use Rattle.std.specs.Io.KnownBytes.{append_known}
-use Rattle.port_edge.specs.Sending.{Sends, WritesPart}
-use Rattle.port_edge.proofs.SendingLemmas.{append_known-append}
+use Rattle.ports.specs.Sending.{Sends, WritesPart}
+use Rattle.ports.proofs.SendingLemmas.{append_known-append}
 use Rattle.told_lines.specs.Lines.{Told}
 use Rattle.told_lines.specs.Hearing.{HearsPart, Hears}
 use Rattle.told_lines.specs.Printing.{Page, print, PrintsPart, printed, text_printed}

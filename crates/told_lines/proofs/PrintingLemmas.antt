@@ -2,10 +2,10 @@
 use Rattle.std.proofs.Common.{◌≡◌, ℕ, Bool, true, false, inl, inr, List, [], ◌∷◌, ◌++◌, Option, refl, sym, ap, subst, ◌∙◌, append_assoc, append-nil}
 use Rattle.std.specs.Prelude.{Result, Ok, Err, OnErr}
 use Rattle.std.specs.Io.KnownBytes.{append_known}
-use Rattle.port_edge.specs.Sending.{Sends, WritesPart}
-use Rattle.port_edge.proofs.SendingLemmas.{append_known-nil, append_known-append, sends_part}
-use Rattle.wave_print.specs.declared.faults.FaultPlace.{FaultPlace}
-use Rattle.wave_print.specs.declared.faults.FaultCode.{FaultCode}
+use Rattle.ports.specs.Sending.{Sends, WritesPart}
+use Rattle.ports.proofs.SendingLemmas.{append_known-nil, append_known-append, sends_part}
+use Rattle.printed_lines.specs.declared.faults.FaultPlace.{FaultPlace}
+use Rattle.printed_lines.specs.declared.faults.FaultCode.{FaultCode}
 use Rattle.told_lines.specs.Lines.{Line, Refused, Told, line_text, text_of}
 use Rattle.told_lines.specs.Hearing.{hear_all, HearsPart, HearsFront, of_column}
 use Rattle.told_lines.specs.Printing.{Page, print, PrintsPart, printed, text_printed}

@@ -4,7 +4,7 @@ use Rattle.std.proofs.lemmas.List.Sums.{sum_by_push}
 use Rattle.ternary.specs.Counts.{raised}
 use Rattle.ternary.specs.declared.tern.Tern.TheVariants.{Zero, One, Unk}
 use Rattle.ternary.proofs.CountsLemmas.{raised-more, raised-none}
-use Rattle.wave_print.specs.declared.lines.Summary.{Summary}
+use Rattle.printed_lines.specs.declared.lines.Summary.{Summary}
 use Rattle.told_lines.specs.Lines.{Line, Wave, Unmet, Shown, Looked, AtEnd, AtGate, Reported, Refused}
 use Rattle.told_lines.specs.Hearing.{hear_all, of_column}
 use Rattle.told_lines.specs.Sums.{counted, with_line, waves_of, steps_of, marks_of, values_of, total, summary_of}

@@ -1,16 +1,16 @@
 -- The lines that are told while a script runs, as values, and their texts.
 use Rattle.std.specs.Prelude.{ℕ, ◌+◌, ◌≤◌, Bool, true, false, List, [], ◌∷◌, ◌++◌, length, All, Option}
 use Rattle.ternary.specs.declared.tern.Tern.{Tern}
-use Rattle.wave_print.specs.declared.faults.FaultPlace.{FaultPlace}
-use Rattle.wave_print.specs.declared.faults.FaultCode.{FaultCode}
-use Rattle.wave_print.specs.declared.faults.TheConstants.{FAULT_LINE_ROOM}
-use Rattle.wave_print.specs.declared.lines.TheConstants.{MOST_VALUES, COLUMN_ROOM, WAVE_LINE_ROOM, EXPECT_LINE_ROOM, SHOW_LINE_ROOM, REPORT_LINE_ROOM}
-use Rattle.wave_print.specs.Lines.{wave_line_of, expect_line_of, show_line_of, report_line_of}
-use Rattle.wave_print.specs.declared.looks.TheConstants.{LOOK_LINE_ROOM}
-use Rattle.wave_print.specs.declared.looks.NodeSort.{NodeSort}
-use Rattle.wave_print.specs.declared.looks.SwitchTold.{SwitchTold}
-use Rattle.wave_print.specs.Faults.{fault_line_of}
-use Rattle.wave_print.specs.Looks.{look_line_of, end_line_of, gate_line_of}
+use Rattle.printed_lines.specs.declared.faults.FaultPlace.{FaultPlace}
+use Rattle.printed_lines.specs.declared.faults.FaultCode.{FaultCode}
+use Rattle.printed_lines.specs.declared.faults.TheConstants.{FAULT_LINE_ROOM}
+use Rattle.printed_lines.specs.declared.lines.TheConstants.{MOST_VALUES, COLUMN_ROOM, WAVE_LINE_ROOM, EXPECT_LINE_ROOM, SHOW_LINE_ROOM, REPORT_LINE_ROOM}
+use Rattle.printed_lines.specs.Lines.{wave_line_of, expect_line_of, show_line_of, report_line_of}
+use Rattle.printed_lines.specs.declared.looks.TheConstants.{LOOK_LINE_ROOM}
+use Rattle.printed_lines.specs.declared.looks.NodeSort.{NodeSort}
+use Rattle.printed_lines.specs.declared.looks.SwitchTold.{SwitchTold}
+use Rattle.printed_lines.specs.Faults.{fault_line_of}
+use Rattle.printed_lines.specs.Looks.{look_line_of, end_line_of, gate_line_of}
 use Rattle.told_lines.specs.declared.lines.Line as code
 use Rattle.told_lines.specs.declared.lines.Line.TheVariants as code_is
 

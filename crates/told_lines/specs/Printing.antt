@@ -1,8 +1,8 @@
 -- Lines as they are printed, and what a printer has written.
 use Rattle.std.specs.Prelude.{◌≡◌, ℕ, ◌+◌, Bool, true, false, List, [], ◌∷◌, ◌++◌, Option}
 use Rattle.std.specs.Io.KnownBytes.{append_known}
-use Rattle.port_edge.specs.Sending.{WritesPart}
-use Rattle.wave_print.specs.Lines.{column_start_of}
+use Rattle.ports.specs.Sending.{WritesPart}
+use Rattle.printed_lines.specs.Lines.{column_start_of}
 use Rattle.told_lines.specs.Lines.{Line, Refused, Told, line_text}
 
 -- what stands before a column's line: the column's number from 1 and a blank; nothing before the line of a refusal, which is one of all columns

@@ -1,7 +1,7 @@
 -- A row: the waveform lines of all columns, by one list of counts and one of values.
 use Rattle.std.specs.Prelude.{ℕ, ◌*◌, false, List, [], ◌∷◌, length, take, drop, slice_index_or}
 use Rattle.ternary.specs.declared.tern.Tern.{Tern}
-use Rattle.oscillation_x.specs.declared.settling.Settled.{Settled}
+use Rattle.settling.specs.declared.settling.Settled.{Settled}
 use Rattle.told_lines.specs.Lines.{Line, Wave, Told}
 use Rattle.told_lines.specs.Hearing.{row_of}
 

@@ -3,7 +3,7 @@ use Rattle.std.specs.Prelude.{ℕ, Bool, true, false, List, sum_by, count_by}
 use Rattle.ternary.specs.Counts.{raised}
 use Rattle.ternary.specs.declared.tern.Tern.{Tern}
 use Rattle.ternary.specs.declared.tern.Tern.TheVariants.{Zero, One, Unk}
-use Rattle.wave_print.specs.declared.lines.Summary.{Summary}
+use Rattle.printed_lines.specs.declared.lines.Summary.{Summary}
 use Rattle.told_lines.specs.Lines.{Line, Wave, Told}
 
 -- both states are the same

@@ -1,13 +1,13 @@
 //! A line as a value, and the trait of those who hear lines.
 
 ghost use Rattle.std.specs.Prelude.{◌≡◌, ℕ, ◌+◌, ◌*◌, ◌^◌, ◌<◌, ◌≤◌, length, IsOk, OnOk, OnErr};
-ghost use Rattle.port_edge.specs.Ports.{faults_after, refusals_after};
+ghost use Rattle.ports.specs.Ports.{faults_after, refusals_after};
 
 use crate::rows::wave_at;
-use oscillation_x::Settled;
-use port_edge::{NotedFile, PortFault};
+use ports::{NotedFile, PortFault};
+use printed_lines::{FaultCode, FaultPlace, NodeSort, SwitchTold};
+use settling::Settled;
 use ternary::{NoMemory, Tern};
-use wave_print::{FaultCode, FaultPlace, NodeSort, SwitchTold};
 
 /// A line that is told.
 #[derive(Clone, Copy)]
@@ -79,7 +79,7 @@ pub enum Line<'a> {
 /// so a hearer that writes lacks no memory of its own once it has its room. A hearer may be given a note besides,
 /// for a human, which is no line.
 pub trait Lines {
-    ghost use Rattle.wave_print.specs.declared.lines.TheConstants.{COLUMN_ROOM, MOST_VALUES, WAVE_LINE_ROOM};
+    ghost use Rattle.printed_lines.specs.declared.lines.TheConstants.{COLUMN_ROOM, MOST_VALUES, WAVE_LINE_ROOM};
     ghost use Rattle.told_lines.specs.Lines.{Told, IsShort, room_of, line_seen};
     ghost use Rattle.told_lines.specs.Hearing.{Hears};
     ghost use Rattle.told_lines.specs.Rows.{wave_row};

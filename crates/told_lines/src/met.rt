@@ -4,7 +4,7 @@ ghost use Rattle.told_lines.specs.Lines as spec;
 ghost use Rattle.told_lines.specs.Lines.{line_seen};
 
 use crate::lines::{Line, Lines};
-use port_edge::{NotedFile, PortFault};
+use ports::{NotedFile, PortFault};
 use ternary::NoMemory;
 
 /// A hearer that passes all lines on to an inner one, and remembers whether one of them was of an expectation

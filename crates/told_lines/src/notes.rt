@@ -2,7 +2,7 @@
 ghost use Rattle.std.specs.Prelude.{◌≡◌, ◌^◌, [], ◌∷◌, ◌++◌, List, IfOk, OnOk, OnErr};
 
 use crate::lines::{Line, Lines};
-use port_edge::PortFault;
+use ports::PortFault;
 use std::alloc::{AllocError, Global};
 use std::marker::Model;
 use ternary::{NoMemory, Tern};

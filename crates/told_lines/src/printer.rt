@@ -3,12 +3,12 @@ ghost use Rattle.std.specs.Prelude.{◌≡◌, IfOk};
 
 use crate::lines::{Line, Lines};
 use crate::putting::{put_row, put_told};
-use oscillation_x::Settled;
-use port_edge::{NotedFile, PortFault, Sink, send};
+use ports::{NotedFile, PortFault, Sink, send};
+use printed_lines::LineBuf;
+use settling::Settled;
 use std::alloc::Global;
 use std::marker::Model;
 use ternary::{NoMemory, Tern};
-use wave_print::LineBuf;
 
 /// A printer: it writes each line to its sink, with its column's number from 1 before it, or without.
 ///

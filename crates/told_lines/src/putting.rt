@@ -1,19 +1,19 @@
 //! The text of a line, in room that is there.
 
 ghost use Rattle.std.specs.Prelude.{◌≡◌, ◌<◌, ◌≤◌, ◌+◌, ◌*◌, ◌^◌, ◌++◌, length};
-ghost use Rattle.wave_print.specs.declared.lines.TheConstants.{COLUMN_ROOM, MOST_VALUES, WAVE_LINE_ROOM};
+ghost use Rattle.printed_lines.specs.declared.lines.TheConstants.{COLUMN_ROOM, MOST_VALUES, WAVE_LINE_ROOM};
 ghost use Rattle.told_lines.specs.Lines.{IsShort, room_of, line_seen, line_text};
 ghost use Rattle.told_lines.specs.Printing.{printed, start_of, text_printed};
 ghost use Rattle.told_lines.specs.Rows.{wave_row};
 
 use crate::lines::Line;
 use crate::rows::wave_at;
-use oscillation_x::Settled;
-use ternary::Tern;
-use wave_print::{
+use printed_lines::{
     COLUMN_ROOM, LineBuf, column_start, end_line, expect_line, fault_line, gate_line, look_line,
     report_line, show_line, wave_line,
 };
+use settling::Settled;
+use ternary::Tern;
 
 /// Puts the line of a column, with the column's number before it or without.
 pub fn put_told(out: &mut LineBuf, numbered: bool, column: u32, line: Line)

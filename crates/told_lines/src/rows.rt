@@ -1,12 +1,12 @@
 //! A column's waveform line in a row of all columns.
 
 ghost use Rattle.std.specs.Prelude.{◌≡◌, ◌<◌, ◌≤◌, ◌+◌, ◌*◌, length};
-ghost use Rattle.wave_print.specs.declared.lines.TheConstants.{COLUMN_ROOM, MOST_VALUES, WAVE_LINE_ROOM};
+ghost use Rattle.printed_lines.specs.declared.lines.TheConstants.{COLUMN_ROOM, MOST_VALUES, WAVE_LINE_ROOM};
 ghost use Rattle.told_lines.specs.Lines.{IsShort, room_of, line_seen};
 ghost use Rattle.told_lines.specs.Rows as spec;
 
 use crate::lines::Line;
-use oscillation_x::Settled;
+use settling::Settled;
 use ternary::Tern;
 
 /// The waveform line of a column, where there are so many values of each.

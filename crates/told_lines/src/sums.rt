@@ -1,12 +1,12 @@
 //! A hearer that counts what waveform lines tell.
 ghost use Rattle.std.specs.Prelude.{◌≡◌, count_by};
-ghost use Rattle.wave_print.specs.declared.lines.Summary.{Summary};
+ghost use Rattle.printed_lines.specs.declared.lines.Summary.{Summary};
 ghost use Rattle.told_lines.specs.Sums as spec;
 
 use crate::lines::Line;
 use crate::unfailing::Unfailing;
+use printed_lines::Summary;
 use ternary::Tern;
-use wave_print::Summary;
 
 /// The counts of the waveform lines that were heard. It never fails, and takes no memory.
 #[derive(Drop)]

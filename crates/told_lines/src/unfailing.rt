@@ -2,7 +2,7 @@
 ghost use Rattle.std.specs.Prelude.{◌≡◌, ◌^◌};
 
 use crate::lines::{Line, Lines};
-use port_edge::PortFault;
+use ports::PortFault;
 use ternary::NoMemory;
 
 /// Who hears lines, each with the column that it is of, never fails, and takes no memory.

@@ -9,7 +9,7 @@ use Rattle.straight_code.specs.Code.{CodeData, IsCode, results}
 use Rattle.straight_code.specs.Flat.{flat_values, step_value, step_of}
 use Rattle.straight_code.proofs.RunMappedLemmas.{no_step, IsWithin, reads_within, result_written}
 use Rattle.ternary.specs.Tern.{may_one, may_zero}
-use Rattle.path_meaning.specs.Switching.{state_at}
+use Rattle.switch_paths.specs.Switching.{state_at}
 use Rattle.straight_code.specs.declared.flat.FlatOutput.{FlatOutput}
 use Rattle.straight_code.specs.declared.flat.FlatCode.{FlatCode}
 use Rattle.straight_code.specs.Code.{settled, output_state, code_value}

@@ -2,7 +2,7 @@
 ghost use Rattle.std.specs.Prelude.{◌≡◌, ℕ, ◌+◌, ◌*◌, ◌<◌, ◌≤◌, List, [], length, map, take, All, OnOk};
 ghost use Rattle.ternary.specs.declared.tern.Tern.{Tern};
 ghost use Rattle.ternary.specs.Tern.{may_one, may_zero};
-ghost use Rattle.path_meaning.specs.Switching.{state_at};
+ghost use Rattle.switch_paths.specs.Switching.{state_at};
 ghost use Rattle.straight_code.specs.Code.{results, code_value};
 ghost use Rattle.straight_code.specs.Flat.{flat_values};
 ghost use Rattle.truth_columns.specs.Columns.{values_in, AreKept, HasColumn};

@@ -3,7 +3,7 @@ use Rattle.std.proofs.Common.{◌≡◌, ℕ, ◌≤◌, Bool, true, false, List
 use Rattle.std.specs.List.{take-map}
 use Rattle.std.proofs.lemmas.Bool.{cases_lt}
 use Rattle.std.proofs.lemmas.List.{get_or_past, get_or-take, length-map, length-take-le}
-use Rattle.path_meaning.specs.Graphs.{GraphData, nodes}
+use Rattle.switch_paths.specs.Graphs.{GraphData, nodes}
 use Rattle.machine_laws.specs.Columns.{AreSeated}
 use Rattle.part_lists.specs.Listing.{AreLists, IsAmong, listed_at}
 use Rattle.truth_parts.specs.Columns.{AreColumns}
@@ -45,7 +45,7 @@ AreLists-cut members count fewer lists less are = record {
 -- a machine without parts
 pub IsTruthMachine-still : {A : Type 0} → (columns : ℕ) (has : A → Type 0) (holds : A → ℕ → Bool) (gear : Gear A) (hi lo : List A) →
     IsEmptyGear has (length hi) gear → AreColumns columns holds hi lo → All has hi → All has lo →
-    IsTruthMachine columns has holds gear.parts.items gear.agenda gear.readers.items gear.owners.items hi lo (rooms gear.desk)
+    IsTruthMachine columns has holds gear.parts.items gear.agenda gear.readers.items gear.owners.items hi lo (rooms gear.workspace)
 IsTruthMachine-still columns has holds gear hi lo is are highs lows =
     rw (is.parts_are, is.agenda_is) (record {
       runs = record {
@@ -66,11 +66,11 @@ IsTruthMachine-still columns has holds gear hi lo is are highs lows =
 -- a machine with a gear for a graph
 pub IsTruthMachine-geared : {A : Type 0} → (g : GraphData) (columns : ℕ) (has : A → Type 0) (holds : A → ℕ → Bool) (gear : Gear A) (hi lo : List A) →
     IsGear g has (nodes g) gear → length hi ≡ nodes g → AreColumns columns holds hi lo → All has hi → All has lo →
-    IsTruthMachine columns has holds gear.parts.items gear.agenda gear.readers.items gear.owners.items hi lo (rooms gear.desk)
+    IsTruthMachine columns has holds gear.parts.items gear.agenda gear.readers.items gear.owners.items hi lo (rooms gear.workspace)
 IsTruthMachine-geared g columns has holds gear hi lo is counted are highs lows =
     let count = sym counted in
     rw is.agenda_is
-    (IsTruthMachine-made columns has holds gear.parts.items gear.readers.items gear.owners.items hi lo (rooms gear.desk)
+    (IsTruthMachine-made columns has holds gear.parts.items gear.readers.items gear.owners.items hi lo (rooms gear.workspace)
     (subst (λ n. AreSeated n gear.parts.items) count is.seated) is.room is.apart is.fresh
     (subst (λ n. AreLists false gear.parts.items n gear.readers.items) count is.readers_are)
     (subst (λ n. AreLists true gear.parts.items n gear.owners.items) count is.owners_are) are highs lows)

@@ -1,8 +1,8 @@
 -- A machine whose maker made more, and one that goes on over another maker.
 use Rattle.std.proofs.Common.{◌≡◌, ℕ, ◌<◌, Bool, true, List, length, All, Vec, Global, refl, sym, subst}
 use Rattle.ternary.specs.declared.tern.Tern.{Tern}
-use Rattle.path_meaning.specs.Graphs.{GraphData}
-use Rattle.machine_parts.specs.declared.part.HeldPart.{HeldPart}
+use Rattle.switch_paths.specs.Graphs.{GraphData}
+use Rattle.machine_parts.specs.declared.part.MachinePart.{MachinePart}
 use Rattle.part_lists.specs.Listing.{AreLists}
 use Rattle.decision_graph.specs.declared.vertex.Function.{Function}
 use Rattle.decision_graph.specs.Vertices.{Extends}
@@ -12,9 +12,9 @@ use Rattle.truth_columns.proofs.ColumnLemmas.{All-kept}
 use Rattle.truth_makers.specs.declared.symbols.Symbols.{Symbols}
 use Rattle.truth_makers.specs.Makers.{columns_in, function_holds, IsFunctionOf}
 use Rattle.truth_makers.proofs.SymbolLemmas.{functions-kept}
-use Rattle.truth_parts.specs.declared.desk.Desk.{Desk}
+use Rattle.truth_parts.specs.declared.workspace.Workspace.{Workspace}
 use Rattle.truth_parts.specs.Columns.{AreColumns}
-use Rattle.truth_parts.specs.Evaluating.{Rooms, IsDesk, IsSeated, HasRoomFor}
+use Rattle.truth_parts.specs.Evaluating.{Rooms, IsWorkspace, IsSeated, HasRoomFor}
 use Rattle.truth_parts.specs.Fitting.{HasFit}
 use Rattle.truth_parts.specs.Stepping.{IsRunnable}
 use Rattle.truth_machine.specs.Machines.{IsTruthMachine, TruthData, column_of, FitsInMachine}
@@ -23,15 +23,15 @@ use Rattle.truth_machine.specs.Symbols.{MakesMore}
 use Rattle.truth_machine.proofs.MakingLemmas.{IsTruthMachine-again}
 use Rattle.truth_machine.proofs.MovingLemmas.{AreColumns-rest, column-rests, FitsInMachine-rests}
 
--- seated parts have room at another desk that is large enough
-reseated : (count : ℕ) (parts : List HeldPart) (room new_room : Rooms) → All (IsSeated count room) parts → HasRoomFor parts new_room → All (IsSeated count new_room) parts
+-- seated parts have room at another workspace that is large enough
+reseated : (count : ℕ) (parts : List MachinePart) (room new_room : Rooms) → All (IsSeated count room) parts → HasRoomFor parts new_room → All (IsSeated count new_room) parts
 reseated count parts room new_room seated fits k d inside =
     let own = seated k d inside in
     record { other = own.other; seated = own.seated; value_room = fits.values k d inside; out_room = fits.outs k d inside }
 
--- with rails of another maker and another desk it is a machine over truths again
+-- with rails of another maker and another workspace it is a machine over truths again
 pub IsTruthMachine-moved : {A : Type 0} → (columns : ℕ) (has : A → Type 0) (holds : A → ℕ → Bool) (later : ℕ) (later_has : A → Type 0) (later_holds : A → ℕ → Bool)
-    (parts : List HeldPart) (marks : List Bool) (readers owners : List (Vec ℕ Global)) (hi lo new_hi new_lo : List A) (room new_room : Rooms) →
+    (parts : List MachinePart) (marks : List Bool) (readers owners : List (Vec ℕ Global)) (hi lo new_hi new_lo : List A) (room new_room : Rooms) →
     length new_hi ≡ length hi → HasRoomFor parts new_room → AreColumns later later_holds new_hi new_lo → All later_has new_hi → All later_has new_lo →
     IsTruthMachine columns has holds parts marks readers owners hi lo room →
     IsTruthMachine later later_has later_holds parts marks readers owners new_hi new_lo new_room
@@ -59,14 +59,14 @@ FitsInMachine-moved columns holds old new parts marks count states g fits column
     let before : column < columns old.maker = subst (λ n. column < n) count inside in
     subst (λ (state : List Tern). HasFit g new.parts new.marks state) (sym (states column inside))
     (subst (λ (list : List Bool). HasFit g new.parts list (column_of holds old column)) (sym marks)
-    (subst (λ (list : List HeldPart). HasFit g list old.marks (column_of holds old column)) (sym parts) (fits column before)))
+    (subst (λ (list : List MachinePart). HasFit g list old.marks (column_of holds old column)) (sym parts) (fits column before)))
 
 -- a maker of functions
 abbrev maker_of : graph.GraphData → Symbols
 maker_of g = record { graph = g }
 
 -- the machine with these parts, marks and rails over a maker
-abbrev machine_of : graph.GraphData → List HeldPart → List Bool → List Function → List Function → TruthData Function Symbols
+abbrev machine_of : graph.GraphData → List MachinePart → List Bool → List Function → List Function → TruthData Function Symbols
 machine_of g parts marks hi lo = record { maker = maker_of g; parts = parts; marks = marks; hi = hi; lo = lo }
 
 module _ (old new : graph.GraphData) (shape : graph.SameShape old new) (extends : Extends old.vertices new.vertices) where
@@ -76,15 +76,16 @@ module _ (old new : graph.GraphData) (shape : graph.SameShape old new) (extends 
   makers-kept = functions-kept old.variables new.variables old.vertices new.vertices shape.variables extends
 
   -- and room for a step has functions of it
-  pub IsDesk-made : (desk : Desk Function) → IsDesk (IsFunctionOf (maker_of old)) desk → IsDesk (IsFunctionOf (maker_of new)) desk
-  IsDesk-made desk is = record {
+  pub IsWorkspace-made : (workspace : Workspace Function) → IsWorkspace (IsFunctionOf (maker_of old)) workspace →
+      IsWorkspace (IsFunctionOf (maker_of new)) workspace
+  IsWorkspace-made workspace is = record {
     even = is.even;
-    values = All-kept _ _ _ _ _ _ desk.values.items makers-kept is.values;
-    highs = All-kept _ _ _ _ _ _ desk.out_hi.items makers-kept is.highs;
-    lows = All-kept _ _ _ _ _ _ desk.out_lo.items makers-kept is.lows;
+    values = All-kept _ _ _ _ _ _ workspace.values.items makers-kept is.values;
+    highs = All-kept _ _ _ _ _ _ workspace.out_hi.items makers-kept is.highs;
+    lows = All-kept _ _ _ _ _ _ workspace.out_lo.items makers-kept is.lows;
   }
 
-  module _ (parts : List HeldPart) (marks : List Bool) (hi lo : List Function)
+  module _ (parts : List MachinePart) (marks : List Bool) (hi lo : List Function)
       (are : AreColumns (columns_in (maker_of old)) (function_holds (maker_of old)) hi lo)
       (highs : All (IsFunctionOf (maker_of old)) hi) (lows : All (IsFunctionOf (maker_of old)) lo) where
     rests : Rests (machine_of old parts marks hi lo) (machine_of new parts marks hi lo)

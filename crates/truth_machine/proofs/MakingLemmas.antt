@@ -2,7 +2,7 @@
 use Rattle.std.proofs.Common.{◌≡◌, ℕ, Bool, true, false, List, length, All, Vec, Global, Result, Ok, Err, sym, subst, ◌∙◌}
 use Rattle.std.specs.Prelude.{replicate, IfOk}
 use Rattle.std.proofs.lemmas.List.{length-replicate}
-use Rattle.machine_parts.specs.declared.part.HeldPart.{HeldPart}
+use Rattle.machine_parts.specs.declared.part.MachinePart.{MachinePart}
 use Rattle.machine_parts.specs.Parts.{IsStale, AreApart}
 use Rattle.machine_laws.specs.Columns.{AreSeated}
 use Rattle.part_lists.specs.Listing.{AreLists}
@@ -12,12 +12,13 @@ use Rattle.truth_parts.specs.Stepping.{IsRunnable}
 use Rattle.truth_machine.specs.Machines.{IsTruthMachine}
 
 -- the parts are seated in room for their codes
-pub seated_in : (count : ℕ) (parts : List HeldPart) (room : Rooms) → AreSeated count parts → HasRoomFor parts room → All (IsSeated count room) parts
+pub seated_in : (count : ℕ) (parts : List MachinePart) (room : Rooms) → AreSeated count parts → HasRoomFor parts room →
+    All (IsSeated count room) parts
 seated_in count parts room (other, seated) fits k d inside =
     record { other = other; seated = seated k d inside; value_room = fits.values k d inside; out_room = fits.outs k d inside }
 
 -- a machine of such parts, all of them marked, is one over truths
-pub IsTruthMachine-made : {A : Type 0} → (columns : ℕ) (has : A → Type 0) (holds : A → ℕ → Bool) (parts : List HeldPart) (readers owners : List (Vec ℕ Global))
+pub IsTruthMachine-made : {A : Type 0} → (columns : ℕ) (has : A → Type 0) (holds : A → ℕ → Bool) (parts : List MachinePart) (readers owners : List (Vec ℕ Global))
     (hi lo : List A) (room : Rooms) → AreSeated (length hi) parts → HasRoomFor parts room → AreApart parts → ((k : ℕ) → ¬ IsStale parts k) →
     AreLists false parts (length hi) readers → AreLists true parts (length hi) owners → AreColumns columns holds hi lo → All has hi → All has lo →
     IsTruthMachine columns has holds parts (replicate (length parts) true) readers owners hi lo room
@@ -39,7 +40,7 @@ IsTruthMachine-made columns has holds parts readers owners hi lo room seated fit
 
 -- with other marks and rails it is one again, and with the same room, also of a later maker
 pub IsTruthMachine-again : {A : Type 0} → (columns : ℕ) (has : A → Type 0) (holds : A → ℕ → Bool) (later : ℕ) (later_has : A → Type 0) (later_holds : A → ℕ → Bool)
-    (parts : List HeldPart) (marks new_marks : List Bool) (readers owners : List (Vec ℕ Global)) (hi lo new_hi new_lo : List A) (room new_room : Rooms) →
+    (parts : List MachinePart) (marks new_marks : List Bool) (readers owners : List (Vec ℕ Global)) (hi lo new_hi new_lo : List A) (room new_room : Rooms) →
     length new_marks ≡ length marks → length new_hi ≡ length hi → new_room ≡ room → AreColumns later later_holds new_hi new_lo → All later_has new_hi → All later_has new_lo →
     IsTruthMachine columns has holds parts marks readers owners hi lo room →
     IsTruthMachine later later_has later_holds parts new_marks readers owners new_hi new_lo new_room

@@ -3,11 +3,11 @@ use Rattle.std.proofs.Common.{◌≡◌, ℕ, ◌<◌, Bool, true, false, List, 
 use Rattle.std.specs.Prelude.{IfOk, OnErr}
 use Rattle.std.proofs.lemmas.Result.{IfOk-weaker}
 use Rattle.ternary.specs.declared.tern.Tern.{Tern}
-use Rattle.path_meaning.specs.Graphs.{GraphData, IsWired}
-use Rattle.path_meaning.specs.Step.{IsStep}
-use Rattle.path_meaning.specs.Switching.{state_at}
-use Rattle.oscillation_x.specs.Settling.{IsJoinStep, StaysOrBecomesX}
-use Rattle.machine_parts.specs.declared.part.HeldPart.{HeldPart}
+use Rattle.switch_paths.specs.Graphs.{GraphData, IsWired}
+use Rattle.switch_paths.specs.Step.{IsStep}
+use Rattle.switch_paths.specs.Switching.{state_at}
+use Rattle.settling.specs.Settling.{IsJoinStep, StaysOrBecomesX}
+use Rattle.machine_parts.specs.declared.part.MachinePart.{MachinePart}
 use Rattle.truth_columns.specs.Columns.{AreKept, HasColumn}
 use Rattle.truth_columns.proofs.ColumnLemmas.{values_in-kept}
 use Rattle.truth_parts.specs.Columns.{states_in, states_of, AreColumns, IsColumn}
@@ -94,14 +94,14 @@ module _ {A M : Type 0} (columns : M → ℕ) (has : M → A → Type 0) (holds 
       let before : column < columns old.maker = omega (arith, inside, kept.count) in
       subst (λ (state : List Tern). HasFit g new.parts new.marks state) (sym (column-rests rests column before))
       (subst (λ (marks : List Bool). HasFit g new.parts marks (column_of holds old column)) (sym rests.marks)
-      (subst (λ (parts : List HeldPart). HasFit g parts old.marks (column_of holds old column)) (sym rests.parts) (fits column before)))
+      (subst (λ (parts : List MachinePart). HasFit g parts old.marks (column_of holds old column)) (sym rests.parts) (fits column before)))
 
   -- after a step each column fits the graph
   pub FitsInMachine-stepped : (g : GraphData) → IsWired g → (joining moved : Bool) → StepsColumns columns holds joining old new moved →
       FitsInMachine columns holds g old → FitsInMachine columns holds g new
   FitsInMachine-stepped g wired joining moved steps fits column inside =
       let before : column < columns old.maker = omega (arith, inside, kept.count) in
-      subst (λ (parts : List HeldPart). HasFit g parts new.marks (column_of holds new column)) (sym steps.parts)
+      subst (λ (parts : List MachinePart). HasFit g parts new.marks (column_of holds new column)) (sym steps.parts)
       (fits_again g wired old.parts old.marks new.marks (column_of holds old column) (column_of holds new column) (fits column before) joining (steps.each column before))
 
 -- three facts after a fault

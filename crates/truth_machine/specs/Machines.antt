@@ -2,8 +2,8 @@
 use Rattle.std.specs.Prelude.{ℕ, Bool, true, List, length, All, Vec}
 use Rattle.std.proofs.Common.{Global}
 use Rattle.ternary.specs.declared.tern.Tern.{Tern}
-use Rattle.path_meaning.specs.Graphs.{GraphData}
-use Rattle.machine_parts.specs.declared.part.HeldPart.{HeldPart}
+use Rattle.switch_paths.specs.Graphs.{GraphData}
+use Rattle.machine_parts.specs.declared.part.MachinePart.{MachinePart}
 use Rattle.part_lists.specs.Listing.{AreLists}
 use Rattle.truth_parts.specs.Columns.{states_in, AreColumns}
 use Rattle.truth_parts.specs.Evaluating.{Rooms}
@@ -13,13 +13,13 @@ use Rattle.truth_parts.specs.Fitting.{FitsInAll}
 -- the maker of truths, the parts, which of them are marked, and both rails of each node in truths
 pub record TruthData (A M : Type 0) : Type 0 where
   pub maker : M
-  pub parts : List HeldPart
+  pub parts : List MachinePart
   pub marks : List Bool
   pub hi : List A
   pub lo : List A
 
 -- the machine can run, knows the owners of its nodes, and has a state in each column; all its truths are the maker's
-pub record IsTruthMachine {A : Type 0} (count : ℕ) (has : A → Type 0) (holds : A → ℕ → Bool) (parts : List HeldPart) (marks : List Bool)
+pub record IsTruthMachine {A : Type 0} (count : ℕ) (has : A → Type 0) (holds : A → ℕ → Bool) (parts : List MachinePart) (marks : List Bool)
     (readers owners : List (Vec ℕ Global)) (hi lo : List A) (room : Rooms) : Type 0 where
   pub runs : IsRunnable parts marks (length hi) readers room
   pub owners_are : AreLists true parts (length hi) owners

@@ -1,6 +1,6 @@
 -- A machine over functions of variables whose maker makes more of them.
 use Rattle.std.specs.Prelude.{◌≡◌, ℕ, ◌<◌}
-use Rattle.path_meaning.specs.Graphs.{GraphData}
+use Rattle.switch_paths.specs.Graphs.{GraphData}
 use Rattle.decision_graph.specs.declared.vertex.Function.{Function}
 use Rattle.decision_graph.specs.Vertices.{Extends}
 use Rattle.decision_graph.specs.Graphs.{SameShape}

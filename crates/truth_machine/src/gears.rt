@@ -1,6 +1,6 @@
 //! What a machine over truths has besides its maker and rails, and a machine that takes such a gear.
 ghost use Rattle.std.specs.Prelude.{◌≡◌, ℕ, ◌<◌, ◌≤◌, [], length, None, All, IfOk};
-ghost use Rattle.path_meaning.specs.Words.{nodes};
+ghost use Rattle.switch_paths.specs.Words.{nodes};
 ghost use Rattle.machine_laws.specs.Words.{FitsGraph};
 ghost use Rattle.truth_parts.specs.Columns.{AreColumns};
 ghost use Rattle.truth_parts.specs.Fitting.{HasSound};
@@ -8,24 +8,24 @@ ghost use Rattle.truth_machine.specs.Machines.{FitsInMachine};
 ghost use Rattle.truth_machine.specs.Gears.{IsEmptyGear, IsGear};
 
 use crate::TruthMachine;
-use machine_parts::HeldPart;
+use machine_parts::MachinePart;
 use part_lists::{Agenda, lists_of};
-use path_meaning::Graph;
 use std::alloc::Global;
+use switch_paths::Graph;
 use ternary::NoMemory;
 use truth_columns::Truths;
-use truth_parts::{Desk, desk_for};
+use truth_parts::{Workspace, workspace_for};
 use unit_step::Machine;
 
 /// What a machine over truths has besides its maker and rails: the parts, which of them are marked, for each node the parts
 /// that read it and the one that has it as a member, and room for steps.
 #[derive(Drop)]
 pub struct Gear<A> {
-    parts: Vec<HeldPart>,
+    parts: Vec<MachinePart>,
     agenda: Agenda,
     readers: Vec<Vec<usize>>,
     owners: Vec<Vec<usize>>,
-    desk: Desk<A>,
+    workspace: Workspace<A>,
 }
 
 /// The gear for a graph, with the parts of a machine that fits it, all of them marked.
@@ -46,13 +46,13 @@ pub fn gear_for<T: Truths>(
     let agenda = Agenda::all(alloc, parts.len())?;
     let readers = lists_of(alloc, false, &parts, nodes)?;
     let owners = lists_of(alloc, true, &parts, nodes)?;
-    let desk = desk_for(alloc, truths, &parts)?;
+    let workspace = workspace_for(alloc, truths, &parts)?;
     Ok(Gear {
         parts,
         agenda,
         readers,
         owners,
-        desk,
+        workspace,
     })
 }
 
@@ -67,13 +67,13 @@ pub fn empty_gear<T: Truths>(
     let agenda = Agenda::all(alloc, 0)?;
     let readers = lists_of(alloc, false, &[], nodes)?;
     let owners = lists_of(alloc, true, &[], nodes)?;
-    let desk = desk_for(alloc, truths, &[])?;
+    let workspace = workspace_for(alloc, truths, &[])?;
     Ok(Gear {
         parts: Vec::new(alloc),
         agenda,
         readers,
         owners,
-        desk,
+        workspace,
     })
 }
 
@@ -105,7 +105,7 @@ impl<T: Truths + Drop> TruthMachine<T> {
             agenda,
             readers,
             owners,
-            desk,
+            workspace,
         } = gear;
         TruthMachine {
             truths,
@@ -115,7 +115,7 @@ impl<T: Truths + Drop> TruthMachine<T> {
             owners,
             hi,
             lo,
-            desk,
+            workspace,
         }
     }
 
@@ -133,7 +133,7 @@ impl<T: Truths + Drop> TruthMachine<T> {
             agenda,
             readers,
             owners,
-            desk,
+            workspace,
         } = gear;
         self.parts = parts;
         self.agenda = agenda;
@@ -141,7 +141,7 @@ impl<T: Truths + Drop> TruthMachine<T> {
         self.owners = owners;
         self.hi = hi;
         self.lo = lo;
-        self.desk = desk;
+        self.workspace = workspace;
     }
 
     /// Takes a gear for a graph in the place of its own: in each column it fits the graph then, with the states that it has. It
@@ -160,13 +160,13 @@ impl<T: Truths + Drop> TruthMachine<T> {
             agenda,
             readers,
             owners,
-            desk,
+            workspace,
         } = gear;
         self.parts = parts;
         self.agenda = agenda;
         self.readers = readers;
         self.owners = owners;
-        self.desk = desk;
+        self.workspace = workspace;
     }
 
     /// The rails are those of states in each column, and truths of the maker: a call of this is for its contract alone.

@@ -1,9 +1,9 @@
 //! The machine over truths.
 ghost use Rattle.std.specs.Prelude.{◌≡◌, ℕ, ◌^◌, ◌<◌, ◌≤◌, true, false, length, replicate, None, All, IfOk, OnErr};
-ghost use Rattle.path_meaning.specs.declared.TheConstants.{RAILS};
-ghost use Rattle.path_meaning.specs.Words.{nodes, IsWired};
-ghost use Rattle.oscillation_x.specs.declared.settling.TheConstants.{MOST_LIMIT};
-ghost use Rattle.oscillation_x.specs.Settling.{StaysOrBecomesX};
+ghost use Rattle.switch_paths.specs.declared.TheConstants.{RAILS};
+ghost use Rattle.switch_paths.specs.Words.{nodes, IsWired};
+ghost use Rattle.settling.specs.declared.settling.TheConstants.{MOST_LIMIT};
+ghost use Rattle.settling.specs.Settling.{StaysOrBecomesX};
 ghost use Rattle.machine_laws.specs.Words.{AreSeated, FitsGraph};
 ghost use Rattle.machine_parts.specs.Parts.{ReadsAt, IsStale, AreApart};
 ghost use Rattle.column_settling.specs.Together.{SettleTogether};
@@ -14,15 +14,15 @@ ghost use Rattle.truth_machine.specs.Machines.{column_of, FitsInMachine};
 ghost use Rattle.truth_machine.specs.Moving.{PlacesTruths, Rests, StepsColumns};
 
 use column_settling::{ColumnStepper, settle_columns};
-use machine_parts::HeldPart;
-use oscillation_x::{MOST_LIMIT, Settled};
+use machine_parts::MachinePart;
 use part_lists::{Agenda, lists_of, mark_all};
-use path_meaning::{Graph, graphs_are_wired};
+use settling::{MOST_LIMIT, Settled};
 use std::alloc::Global;
 use std::marker::Model;
+use switch_paths::{Graph, graphs_are_wired};
 use ternary::NoMemory;
 use truth_columns::Truths;
-use truth_parts::{Desk, advance, desk_for};
+use truth_parts::{Workspace, advance, workspace_for};
 use unit_step::Machine;
 
 /// A compiled circuit with a state in each column of a maker of truths: the parts of its groups, which of them are
@@ -33,18 +33,18 @@ use unit_step::Machine;
 #[derive(Drop)]
 pub struct TruthMachine<T: Truths + Drop> {
     pub(crate) truths: T,
-    pub(crate) parts: Vec<HeldPart>,
+    pub(crate) parts: Vec<MachinePart>,
     pub(crate) agenda: Agenda,
     // for each node the parts that read it, and the one that has it as a member
     pub(crate) readers: Vec<Vec<usize>>,
     pub(crate) owners: Vec<Vec<usize>>,
     pub(crate) hi: Vec<T::Truth>,
     pub(crate) lo: Vec<T::Truth>,
-    pub(crate) desk: Desk<T::Truth>,
+    pub(crate) workspace: Workspace<T::Truth>,
 }
 
 impl<T: Truths + Drop> Model for TruthMachine<T> {
-    ghost use Rattle.truth_parts.specs.Evaluating.{rooms, IsDesk};
+    ghost use Rattle.truth_parts.specs.Evaluating.{rooms, IsWorkspace};
     ghost use Rattle.truth_machine.specs.Machines.{IsTruthMachine, TruthData};
 
     ghost Value = { TruthData T.Truth T };
@@ -52,7 +52,7 @@ impl<T: Truths + Drop> Model for TruthMachine<T> {
     ghost view = { λ m. record { maker = m.truths; parts = m.parts.items; marks = m.agenda; hi = m.hi.items; lo = m.lo.items } };
 
     ghost invariant = { λ m. IsTruthMachine (T.columns m.truths) (T.has m.truths) (T.holds m.truths) m.parts.items m.agenda m.readers.items m.owners.items
-        m.hi.items m.lo.items (rooms m.desk) × IsDesk (T.has m.truths) m.desk };
+        m.hi.items m.lo.items (rooms m.workspace) × IsWorkspace (T.has m.truths) m.workspace };
 }
 
 impl<T: Truths + Drop> TruthMachine<T> {
@@ -84,7 +84,7 @@ impl<T: Truths + Drop> TruthMachine<T> {
     fn of_parts(
         alloc: Global,
         truths: T,
-        parts: Vec<HeldPart>,
+        parts: Vec<MachinePart>,
         hi: &[T::Truth],
         lo: &[T::Truth],
     ) -> Result<TruthMachine<T>, NoMemory>
@@ -101,7 +101,7 @@ impl<T: Truths + Drop> TruthMachine<T> {
         let agenda = Agenda::all(alloc, parts.len())?;
         let readers = lists_of(alloc, false, &parts, nodes)?;
         let owners = lists_of(alloc, true, &parts, nodes)?;
-        let desk = desk_for(alloc, &truths, &parts)?;
+        let workspace = workspace_for(alloc, &truths, &parts)?;
         let highs = Vec::from_slice(alloc, hi)?;
         let lows = Vec::from_slice(alloc, lo)?;
         Ok(TruthMachine {
@@ -112,7 +112,7 @@ impl<T: Truths + Drop> TruthMachine<T> {
             owners,
             hi: highs,
             lo: lows,
-            desk,
+            workspace,
         })
     }
 
@@ -149,7 +149,7 @@ impl<T: Truths + Drop> TruthMachine<T> {
             owners: _owners,
             hi: _hi,
             lo: _lo,
-            desk: _desk,
+            workspace: _workspace,
         } = self;
         truths
     }
@@ -245,7 +245,7 @@ impl<T: Truths + Drop> TruthMachine<T> {
             &mut self.hi,
             &mut self.lo,
             &mut self.agenda,
-            &mut self.desk,
+            &mut self.workspace,
         )
     }
 }

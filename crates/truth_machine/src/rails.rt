@@ -1,8 +1,8 @@
 //! The rails of one node, and a machine that goes on over another maker.
 ghost use Rattle.std.specs.Prelude.{◌≡◌, ℕ, ◌<◌, length, slice_index_or, All, OnErr, OnOk};
 ghost use Rattle.ternary.specs.Tern.{may_one, may_zero};
-ghost use Rattle.path_meaning.specs.Switching.{state_at};
-ghost use Rattle.path_meaning.specs.Graphs.{GraphData};
+ghost use Rattle.switch_paths.specs.Switching.{state_at};
+ghost use Rattle.switch_paths.specs.Graphs.{GraphData};
 ghost use Rattle.truth_columns.specs.Columns.{HasColumn};
 ghost use Rattle.truth_machine.specs.Machines.{column_of, FitsInMachine};
 
@@ -10,7 +10,7 @@ use crate::TruthMachine;
 use std::alloc::Global;
 use ternary::NoMemory;
 use truth_columns::Truths;
-use truth_parts::desk_for;
+use truth_parts::workspace_for;
 
 impl<T: Truths + Drop> TruthMachine<T> {
     /// Both rails of a node: where it may be 1, and where it may be 0.
@@ -50,11 +50,11 @@ impl<T: Truths + Drop> TruthMachine<T> {
         ensures states { OnOk result ((column : ℕ) → column < T.columns truths → column_of T.holds self.new column ≡ column_of T.holds self.old column) }
         ensures fits { OnOk result ((g : GraphData) → FitsInMachine T.columns T.holds g self.old → FitsInMachine T.columns T.holds g self.new) }
     {
-        let desk = desk_for(alloc, &truths, &self.parts)?;
+        let workspace = workspace_for(alloc, &truths, &self.parts)?;
         self.truths = truths;
         self.hi = hi;
         self.lo = lo;
-        self.desk = desk;
+        self.workspace = workspace;
         Ok(())
     }
 }

@@ -3,7 +3,7 @@ use Rattle.std.proofs.Common.{◌≡◌, ℕ, zero, suc, ◌+◌, ◌-◌, ◌*�
 use Rattle.std.specs.Int.{bit_at}
 use Rattle.std.proofs.lemmas.Nat.Bits.{bit_at_lowest, bit_at-suc}
 use Rattle.std.proofs.Math.Nat.{pow-suc}
-use Rattle.batch_words.specs.Lanes.{is_in_lane}
+use Rattle.word_columns.specs.Columns.{is_in_column}
 use Rattle.decision_graph.specs.declared.vertex.Vertex.{Vertex}
 use Rattle.decision_graph.specs.declared.vertex.Function.{Function}
 use Rattle.decision_graph.specs.Vertices.{IsReduced, Extends}
@@ -39,8 +39,8 @@ number_of-lt (suc n) bits = by (bits 0) (number_of (λ v. bits (suc v)) n) (numb
     by false c less = let power : 2 ^ suc n ≡ 2 ^ n * 2 = pow-suc 2 n in omega arith
 
 -- it has these bits
-number_of-bit : (n : ℕ) (bits : ℕ → Bool) (i : ℕ) → i < n → is_in_lane i (number_of bits n) ≡ bits i
-unfolding number_of is_in_lane
+number_of-bit : (n : ℕ) (bits : ℕ → Bool) (i : ℕ) → i < n → is_in_column i (number_of bits n) ≡ bits i
+unfolding number_of is_in_column
 number_of-bit zero bits i less = absurd (omega arith)
 number_of-bit (suc n) bits zero less = ap (λ bit. bit == 1) (lowest (bits 0) (number_of (λ v. bits (suc v)) n)) ∙ as_bit (bits 0)
 number_of-bit (suc n) bits (suc i) less =
@@ -87,18 +87,18 @@ functions-kept variables later old new same extends = record {
 record Parts (n c d : ℕ) : Type 0 where
   at_bit : ℕ
   below : at_bit < n
-  more : is_in_lane at_bit c ≡ true
-  less : is_in_lane at_bit d ≡ false
-  above : (j : ℕ) → at_bit < j → is_in_lane j d ≡ is_in_lane j c
+  more : is_in_column at_bit c ≡ true
+  less : is_in_column at_bit d ≡ false
+  above : (j : ℕ) → at_bit < j → is_in_column j d ≡ is_in_column j c
 
 -- a bit but the lowest is one of the half
-half : (x j : ℕ) → is_in_lane (suc j) x ≡ is_in_lane j (x / 2)
-unfolding is_in_lane
+half : (x j : ℕ) → is_in_column (suc j) x ≡ is_in_column j (x / 2)
+unfolding is_in_column
 half x j = ap (λ bit. bit == 1) (bit_at-suc x j)
 
 -- the lowest bit is the rest
-last : (x : ℕ) → is_in_lane 0 x ≡ (x % 2 == 1)
-unfolding is_in_lane
+last : (x : ℕ) → is_in_column 0 x ≡ (x % 2 == 1)
+unfolding is_in_column
 last x = ap (λ bit. bit == 1) (bit_at_lowest x)
 
 -- a part of the halves is one of the numbers
@@ -111,7 +111,7 @@ Parts-half n c d parts = record {
   above = by;
 }
   where
-    by : (j : ℕ) → suc parts.at_bit < j → is_in_lane j d ≡ is_in_lane j c
+    by : (j : ℕ) → suc parts.at_bit < j → is_in_column j d ≡ is_in_column j c
     by zero up = absurd (omega arith)
     by (suc j) up = half d j ∙ parts.above j (omega arith) ∙ sym (half c j)
 
@@ -128,9 +128,9 @@ Parts-last n c d lower same =
       above = by;
     }
   where
-    by : (j : ℕ) → 0 < j → is_in_lane j d ≡ is_in_lane j c
+    by : (j : ℕ) → 0 < j → is_in_column j d ≡ is_in_column j c
     by zero up = absurd (omega arith)
-    by (suc j) up = half d j ∙ ap (is_in_lane j) (sym same) ∙ sym (half c j)
+    by (suc j) up = half d j ∙ ap (is_in_column j) (sym same) ∙ sym (half c j)
 
 parts_of : (n c d : ℕ) → d < c → c < 2 ^ n → Parts n c d
 parts_of zero c d lower small = absurd (omega arith)
@@ -160,8 +160,8 @@ first-column variables vertices place vars reduced inside held before = record {
         let v = variables - 1 - parts.at_bit in
         let back : variables - 1 - v ≡ parts.at_bit = omega (arith, parts.below) in
         let set : vars v ≡ true = sym (valuation_of-column variables vars v (omega (arith, parts.below)))
-        ∙ ap (λ i. is_in_lane i (column_of vars variables)) back ∙ parts.more in
+        ∙ ap (λ i. is_in_column i (column_of vars variables)) back ∙ parts.more in
         let agree : (w : ℕ) → w < v → valuation_of variables other w ≡ vars w =
         λ w earlier. parts.above (variables - 1 - w) (omega (arith, parts.below)) ∙ valuation_of-column variables vars w (omega (arith, parts.below)) in
         let also : valuation_of variables other v ≡ true = before (valuation_of variables other) v is agree (omega arith) set in
-        absurd (true≢false (sym also ∙ ap (λ i. is_in_lane i other) back ∙ parts.less))
+        absurd (true≢false (sym also ∙ ap (λ i. is_in_column i other) back ∙ parts.less))

@@ -1,13 +1,13 @@
 -- The valuations of variables by number: in column c of so many variables, the first variable has the truth value of the highest bit of c.
 -- So columns are in the order of their valuations, false before true, the first variable counting most.
 use Rattle.std.specs.Prelude.{◌≡◌, ℕ, zero, suc, ◌+◌, ◌-◌, ◌*◌, ◌^◌, ◌<◌, Bool, true, false, List, if◌then◌else◌}
-use Rattle.batch_words.specs.Lanes.{is_in_lane}
+use Rattle.word_columns.specs.Columns.{is_in_column}
 use Rattle.decision_graph.specs.declared.vertex.Vertex.{Vertex}
 use Rattle.decision_graph.specs.Meaning.{holds}
 
 -- the valuation of a column
 abbrev pub valuation_of : ℕ → ℕ → ℕ → Bool
-valuation_of variables column v = is_in_lane (variables - 1 - v) column
+valuation_of variables column v = is_in_column (variables - 1 - v) column
 
 -- the function at a place holds in a column
 abbrev pub holds_in : ℕ → List Vertex → ℕ → ℕ → Bool

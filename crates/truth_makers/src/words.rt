@@ -1,8 +1,8 @@
 //! The bits of words: up to 64 columns.
 ghost use Rattle.std.specs.Prelude.{◌≡◌, ◌↔◌, ℕ, ◌<◌, ◌≤◌, Bool, true, false, IfOk, IsTrue};
 ghost use Rattle.straight_code.specs.Flat.{kind_value};
-ghost use Rattle.batch_words.specs.Lanes.{is_in_lane};
-ghost use Rattle.batch_words.specs.Words.{is_not, is_or};
+ghost use Rattle.word_columns.specs.Columns.{is_in_column};
+ghost use Rattle.word_columns.specs.Words.{is_not, is_or};
 ghost use Rattle.truth_columns.specs.Columns.{AreKept};
 ghost use Rattle.truth_makers.specs.Columns.{AreUsed};
 
@@ -65,7 +65,7 @@ impl Truths for WordTruths {
 
     ghost has = { λ columns word. word < 18446744073709551616 };
 
-    ghost holds = { λ columns word column. is_in_lane column word };
+    ghost holds = { λ columns word column. is_in_column column word };
 
     fn constant(&self, value: bool) -> u64 {
         self.used();
@@ -97,21 +97,21 @@ fn used_bits(columns: u32) -> u64
 
 // All bits, or none.
 fn all_or_none(value: bool) -> u64
-    ensures { (lane : ℕ) → lane < 64 → is_in_lane lane result ≡ value }
+    ensures { (column : ℕ) → column < 64 → is_in_column column result ≡ value }
 {
     if value { u64::MAX } else { 0 }
 }
 
 // Whether two words agree in the columns whose bits are used.
 fn agree(used: u64, a: u64, b: u64) -> bool
-    ensures { IsTrue result ↔ ((lane : ℕ) → lane < 64 → is_in_lane lane used ≡ true → is_in_lane lane a ≡ is_in_lane lane b) }
+    ensures { IsTrue result ↔ ((column : ℕ) → column < 64 → is_in_column column used ≡ true → is_in_column column a ≡ is_in_column column b) }
 {
     (a ^ b) & used == 0
 }
 
 // What an instruction of this kind gives of two words. It has no branch on the kind's result.
 fn kind_word(kind: StepKind, a: u64, b: u64) -> u64
-    ensures { (lane : ℕ) → lane < 64 → is_in_lane lane result ≡ kind_value kind (is_in_lane lane a) (is_in_lane lane b) }
+    ensures { (column : ℕ) → column < 64 → is_in_column column result ≡ kind_value kind (is_in_column column a) (is_in_column column b) }
 {
     let turned = not_mask(kind);
     let either = or_mask(kind);
@@ -120,7 +120,7 @@ fn kind_word(kind: StepKind, a: u64, b: u64) -> u64
 
 // All columns if the kind is a Not, else none.
 fn not_mask(kind: StepKind) -> u64
-    ensures { (lane : ℕ) → lane < 64 → is_in_lane lane result ≡ is_not kind }
+    ensures { (column : ℕ) → column < 64 → is_in_column column result ≡ is_not kind }
 {
     match kind {
         StepKind::Not => u64::MAX,
@@ -130,7 +130,7 @@ fn not_mask(kind: StepKind) -> u64
 
 // All columns if the kind is an Or, else none.
 fn or_mask(kind: StepKind) -> u64
-    ensures { (lane : ℕ) → lane < 64 → is_in_lane lane result ≡ is_or kind }
+    ensures { (column : ℕ) → column < 64 → is_in_column column result ≡ is_or kind }
 {
     match kind {
         StepKind::Or => u64::MAX,

@@ -6,7 +6,7 @@ use Rattle.std.proofs.lemmas.Slice.Zip.{get_or-zip}
 use Rattle.ternary.specs.declared.tern.Tern.{Tern}
 use Rattle.ternary.specs.declared.tern.Tern.TheVariants.{Zero, One, Unk}
 use Rattle.ternary.specs.Tern.{may_one, may_zero}
-use Rattle.path_meaning.specs.Switching.{state_at}
+use Rattle.switch_paths.specs.Switching.{state_at}
 use Rattle.truth_columns.specs.Columns.{values_in, HasColumn}
 use Rattle.truth_columns.proofs.ColumnLemmas.{high_counted, high_rail, low_rail, length-values_in}
 use Rattle.truth_parts.specs.Columns.{rail_in, state_with, state_of, states_of, states_in}

@@ -7,10 +7,10 @@ use Rattle.std.proofs.lemmas.List.Elements.{Contains-push, Contains-push_cases, 
 use Rattle.ternary.specs.declared.tern.Tern.{Tern}
 use Rattle.ternary.specs.Tern.{may_one, may_zero}
 use Rattle.ternary.proofs.TernLemmas.{same_rails}
-use Rattle.path_meaning.specs.Switching.{state_at}
+use Rattle.switch_paths.specs.Switching.{state_at}
 use Rattle.straight_code.specs.Code.{CodeData, code_value}
 use Rattle.part_words.specs.Noting.{after}
-use Rattle.machine_parts.specs.declared.part.HeldPart.{HeldPart}
+use Rattle.machine_parts.specs.declared.part.MachinePart.{MachinePart}
 use Rattle.machine_parts.specs.Parts.{Stands, IsMemberAt}
 use Rattle.machine_parts.specs.Marking.{IsMarked, count_marked}
 use Rattle.machine_parts.specs.Stepping.{Gives}
@@ -19,8 +19,8 @@ use Rattle.machine_parts.proofs.MarkLemmas.{count_marked-cleared}
 use Rattle.machine_parts.proofs.SetMarks.{marked-cleared_was, marked-cleared_cases}
 use Rattle.truth_columns.specs.Columns.{HasColumn}
 use Rattle.truth_columns.proofs.ColumnLemmas.{high_rail, low_rail}
-use Rattle.truth_parts.specs.declared.desk.TruthChange.{TruthChange}
-use Rattle.truth_parts.specs.declared.desk.Desk.{Desk}
+use Rattle.truth_parts.specs.declared.workspace.TruthChange.{TruthChange}
+use Rattle.truth_parts.specs.declared.workspace.Workspace.{Workspace}
 use Rattle.truth_parts.specs.Columns.{rail_in, IsColumn}
 use Rattle.truth_parts.specs.Noting.{after_rail, Notes}
 use Rattle.truth_parts.specs.Evaluating.{rooms, AreTaken, Evaluated, NotesAll, Reports}
@@ -28,8 +28,8 @@ use Rattle.truth_parts.proofs.NotingLemmas.{after-one, after-zero}
 
 -- ---- one part
 
-module _ {A : Type 0} (joining : Bool) (parts : List HeldPart) (columns : ℕ) (holds : A → ℕ → Bool) (hi lo : List A) (even : length lo ≡ length hi) (k : ℕ)
-    (part : HeldPart) (code : Rc CodeData Global) (stands : Stands parts k part) (has_code : part.code ≡ Some code)
+module _ {A : Type 0} (joining : Bool) (parts : List MachinePart) (columns : ℕ) (holds : A → ℕ → Bool) (hi lo : List A) (even : length lo ≡ length hi) (k : ℕ)
+    (part : MachinePart) (code : Rc CodeData Global) (stands : Stands parts k part) (has_code : part.code ≡ Some code)
     (front : part.members ≤ length part.map.items) (below : All (λ node. node < length hi) part.map.items) (ones others : List A)
     (highs : length ones ≡ part.members) (lows : length others ≡ length ones)
     (given : (column : ℕ) (state : List Tern) → column < columns → HasColumn holds column hi lo state →
@@ -118,7 +118,7 @@ module _ {A : Type 0} (joining : Bool) (parts : List HeldPart) (columns : ℕ) (
   }
 
 -- a part without code makes no change
-pub Reports-none : {A : Type 0} → (joining : Bool) (parts : List HeldPart) (columns : ℕ) (holds : A → ℕ → Bool) (hi lo : List A) (k : ℕ) (part : HeldPart) →
+pub Reports-none : {A : Type 0} → (joining : Bool) (parts : List MachinePart) (columns : ℕ) (holds : A → ℕ → Bool) (hi lo : List A) (k : ℕ) (part : MachinePart) →
     Stands parts k part → part.code ≡ None → (old : List (TruthChange A)) → Reports joining parts columns holds hi lo k old old
 Reports-none joining parts columns holds hi lo k part stands none old = record {
   kept = λ change there. there;
@@ -131,7 +131,7 @@ Reports-none joining parts columns holds hi lo k part stands none old = record {
 -- ---- part by part
 
 -- what is noted of a part stays noted
-NotesAll-more : {A : Type 0} → (joining : Bool) (parts : List HeldPart) (columns : ℕ) (holds : A → ℕ → Bool) (hi lo : List A) (k : ℕ) (changes more : List (TruthChange A)) →
+NotesAll-more : {A : Type 0} → (joining : Bool) (parts : List MachinePart) (columns : ℕ) (holds : A → ℕ → Bool) (hi lo : List A) (k : ℕ) (changes more : List (TruthChange A)) →
     ((change : TruthChange A) → Contains changes change → Contains more change) → NotesAll joining parts columns holds hi lo k changes →
     NotesAll joining parts columns holds hi lo k more
 NotesAll-more joining parts columns holds hi lo k changes more kept notes column state col node value gives =
@@ -141,7 +141,7 @@ NotesAll-more joining parts columns holds hi lo k changes more kept notes column
     ]
 
 -- one part more was evaluated
-pub Evaluated-more : {A : Type 0} → (joining : Bool) (parts : List HeldPart) (columns : ℕ) (holds : A → ℕ → Bool) (hi lo : List A)
+pub Evaluated-more : {A : Type 0} → (joining : Bool) (parts : List MachinePart) (columns : ℕ) (holds : A → ℕ → Bool) (hi lo : List A)
     (changes more : List (TruthChange A)) (done : List ℕ) (k : ℕ) → Reports joining parts columns holds hi lo k changes more →
     Evaluated joining parts columns holds hi lo changes done → Evaluated joining parts columns holds hi lo more (done ++ k ∷ [])
 Evaluated-more joining parts columns holds hi lo changes more done k reports evaluated = record {
@@ -160,7 +160,7 @@ Evaluated-more joining parts columns holds hi lo changes more done k reports eva
 }
 
 -- nothing was evaluated yet
-pub Evaluated-none : {A : Type 0} → (joining : Bool) (parts : List HeldPart) (columns : ℕ) (holds : A → ℕ → Bool) (hi lo : List A) →
+pub Evaluated-none : {A : Type 0} → (joining : Bool) (parts : List MachinePart) (columns : ℕ) (holds : A → ℕ → Bool) (hi lo : List A) →
     Evaluated joining parts columns holds hi lo [] []
 Evaluated-none joining parts columns holds hi lo = record {
   noted = λ k (i, inside, here). absurd (omega (arith, inside));
@@ -203,11 +203,11 @@ AreTaken-none before = record {
 -- ---- room
 
 -- clearing the lists of a step keeps their room
-pub cleared_rooms : {A : Type 0} → (desk : Desk A) (changes : Vec (TruthChange A) Global) (done : Vec ℕ Global) → vec_capacity changes ≡ vec_capacity desk.changes →
-    vec_capacity done ≡ vec_capacity desk.done → rooms (record desk { changes = changes; done = done }) ≡ rooms desk
-cleared_rooms desk changes done changes_same done_same = λ i. record {
-  values = length desk.values.items;
-  outs = length desk.out_hi.items;
+pub cleared_rooms : {A : Type 0} → (workspace : Workspace A) (changes : Vec (TruthChange A) Global) (done : Vec ℕ Global) → vec_capacity changes ≡ vec_capacity workspace.changes →
+    vec_capacity done ≡ vec_capacity workspace.done → rooms (record workspace { changes = changes; done = done }) ≡ rooms workspace
+cleared_rooms workspace changes done changes_same done_same = λ i. record {
+  values = length workspace.values.items;
+  outs = length workspace.out_hi.items;
   changes = changes_same i;
   parts = done_same i;
 }

@@ -3,13 +3,13 @@ use Rattle.std.proofs.Common.{◌≡◌, ℕ, ◌<◌, Bool, true, false, List, 
 use Rattle.std.specs.Prelude.{replicate, Option, None}
 use Rattle.std.proofs.lemmas.List.{get_or-replicate}
 use Rattle.ternary.specs.declared.tern.Tern.{Tern}
-use Rattle.path_meaning.specs.Graphs.{GraphData, IsWired}
-use Rattle.path_meaning.specs.Step.{IsStep}
-use Rattle.oscillation_x.specs.Settling.{IsJoinStep}
+use Rattle.switch_paths.specs.Graphs.{GraphData, IsWired}
+use Rattle.switch_paths.specs.Step.{IsStep}
+use Rattle.settling.specs.Settling.{IsJoinStep}
 use Rattle.vicinity.specs.Wides.{WideData}
 use Rattle.wide_groups.specs.Moving.{MovesIn, RetouchesIn}
 use Rattle.wide_groups.proofs.WideCases.{moves_without}
-use Rattle.machine_parts.specs.declared.part.HeldPart.{HeldPart}
+use Rattle.machine_parts.specs.declared.part.MachinePart.{MachinePart}
 use Rattle.machine_laws.specs.Machines.{MachineData}
 use Rattle.machine_laws.specs.Columns.{AdvancesInColumn}
 use Rattle.machine_laws.specs.Fitting.{FitsGraph}
@@ -20,12 +20,12 @@ use Rattle.truth_parts.specs.Stepping.{StepsTo}
 use Rattle.truth_parts.proofs.ColumnLemmas.{states-has}
 
 -- the machine of a column, with just these parts, marks and states, fits the graph
-pub column_machine : (g : GraphData) (parts : List HeldPart) (marks : List Bool) (state : List Tern) → (fit : HasFit g parts marks state) →
+pub column_machine : (g : GraphData) (parts : List MachinePart) (marks : List Bool) (state : List Tern) → (fit : HasFit g parts marks state) →
     FitsGraph g (record fit.machine { parts = parts; marks = marks; state = state })
 column_machine g parts marks state fit =
     subst (FitsGraph g) (λ i. record fit.machine { parts = fit.parts_are i; marks = fit.marks_are i; state = fit.state_is i }) fit.fits
 
-module _ (g : GraphData) (wired : IsWired g) (parts : List HeldPart) (marks new_marks : List Bool) (state next : List Tern)
+module _ (g : GraphData) (wired : IsWired g) (parts : List MachinePart) (marks new_marks : List Bool) (state next : List Tern)
     (fit : HasFit g parts marks state) where
   -- a column's step is one of a machine that fits the graph
   advances : (joining : Bool) → StepsTo joining parts marks new_marks state next →
@@ -66,7 +66,7 @@ module _ (g : GraphData) (wired : IsWired g) (parts : List HeldPart) (marks new_
 -- ---- at first
 
 -- a machine that fits the graph does so in each column, where all parts are marked
-pub FitsInAll-fresh : {A : Type 0} → (g : GraphData) (m : MachineData) (columns : ℕ) (holds : A → ℕ → Bool) (parts : List HeldPart) (hi lo : List A) → FitsGraph g m →
+pub FitsInAll-fresh : {A : Type 0} → (g : GraphData) (m : MachineData) (columns : ℕ) (holds : A → ℕ → Bool) (parts : List MachinePart) (hi lo : List A) → FitsGraph g m →
     m.wide ≡ None → parts ≡ m.parts → length lo ≡ length hi → ((column : ℕ) → column < columns → HasSound g holds hi lo column) →
     FitsInAll g columns holds parts (replicate (length parts) true) hi lo
 FitsInAll-fresh g m columns holds parts hi lo fits without are even sound column inside =

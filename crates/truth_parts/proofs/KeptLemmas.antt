@@ -2,11 +2,11 @@
 use Rattle.std.proofs.Common.{◌≡◌, ℕ, ◌<◌, Bool, List, All, inl, inr, sym, ap, ap₂, ◌∙◌, arith}
 use Rattle.std.proofs.lemmas.List.Elements.{All-contains}
 use Rattle.ternary.specs.declared.tern.Tern.{Tern}
-use Rattle.machine_parts.specs.declared.part.HeldPart.{HeldPart}
+use Rattle.machine_parts.specs.declared.part.MachinePart.{MachinePart}
 use Rattle.truth_columns.specs.Columns.{AreKept, HasColumn}
 use Rattle.truth_columns.proofs.ColumnLemmas.{values_in-kept}
 use Rattle.std.specs.Prelude.{slice_index_or, slice_index, false}
-use Rattle.truth_parts.specs.declared.desk.TruthChange.{TruthChange}
+use Rattle.truth_parts.specs.declared.workspace.TruthChange.{TruthChange}
 use Rattle.truth_parts.specs.Columns.{rail_in, IsColumn}
 use Rattle.truth_parts.specs.Noting.{after_rail, Differs, IsIdle, IsNextOf, IsOf, Notes}
 use Rattle.truth_parts.specs.Evaluating.{Evaluated, IsMadeBy, NotesAll}
@@ -117,7 +117,7 @@ module _ {A : Type 0} (n m : ℕ) (P Q : A → Type 0) (f g : A → ℕ → Bool
             ];
       }
 
-    module _ (joining : Bool) (parts : List HeldPart) where
+    module _ (joining : Bool) (parts : List MachinePart) where
       NotesAll-kept : (k : ℕ) (changes : List (TruthChange A)) → NotesAll joining parts n f hi lo k changes → NotesAll joining parts m g hi lo k changes
       NotesAll-kept k changes notes column state col node value gives = notes column state (IsColumn-before hi lo highs lows column state col) node value gives
 

@@ -9,7 +9,7 @@ use Rattle.ternary.specs.Tern.{may_one, may_zero}
 use Rattle.ternary.proofs.TernLemmas.{may_one-join, may_zero-join}
 use Rattle.part_words.specs.Noting.{after}
 use Rattle.truth_columns.proofs.ColumnLemmas.{value_at}
-use Rattle.truth_parts.specs.declared.desk.TruthChange.{TruthChange}
+use Rattle.truth_parts.specs.declared.workspace.TruthChange.{TruthChange}
 use Rattle.truth_parts.specs.Columns.{rail_in}
 use Rattle.truth_parts.specs.Noting.{after_rail, with_found, Differs, HasChange, IsIdle, IsNextFrom, IsNextOf, IsNoted, IsOf, Notes, StaysBy}
 

@@ -9,10 +9,10 @@ use Rattle.ternary.specs.declared.tern.Tern.{Tern}
 use Rattle.ternary.specs.declared.tern.Tern.TheVariants.{Zero, Unk}
 use Rattle.ternary.specs.Tern.{may_one, may_zero}
 use Rattle.ternary.proofs.TernLemmas.{join-fades}
-use Rattle.path_meaning.specs.Switching.{state_at}
-use Rattle.oscillation_x.specs.Settling.{StaysOrBecomesX}
+use Rattle.switch_paths.specs.Switching.{state_at}
+use Rattle.settling.specs.Settling.{StaysOrBecomesX}
 use Rattle.part_words.specs.Noting.{after}
-use Rattle.machine_parts.specs.declared.part.HeldPart.{HeldPart}
+use Rattle.machine_parts.specs.declared.part.MachinePart.{MachinePart}
 use Rattle.machine_parts.specs.Marking.{IsMarked, MarksAll}
 use Rattle.machine_parts.specs.Stepping.{IsGiven, Moves, StaysMarked}
 use Rattle.machine_parts.proofs.PartLemmas.{given_once}
@@ -20,7 +20,7 @@ use Rattle.machine_laws.specs.Columns.{KeepsMarks}
 use Rattle.part_lists.specs.Listing.{listed_at, IsAmong}
 use Rattle.truth_columns.specs.Columns.{HasColumn}
 use Rattle.truth_columns.proofs.ColumnLemmas.{high_counted, high_rail, low_rail}
-use Rattle.truth_parts.specs.declared.desk.TruthChange.{TruthChange}
+use Rattle.truth_parts.specs.declared.workspace.TruthChange.{TruthChange}
 use Rattle.truth_parts.specs.Columns.{rail_in, states_in, IsColumn, AreColumns}
 use Rattle.truth_parts.specs.Noting.{HasChange}
 use Rattle.truth_parts.specs.Evaluating.{AreTaken, Evaluated, Rooms, IsSeated}
@@ -49,7 +49,7 @@ pub none_noted : {A : Type 0} → (changes : List A) (count : ℕ) → count ≡
 none_noted changes count counted true is still = nil_from_length changes (sym counted ∙ eqb-true count 0 (sym is))
 none_noted changes count counted false is still = absurd (true≢false still)
 
-module _ {A : Type 0} (joining : Bool) (columns : ℕ) (holds : A → ℕ → Bool) (parts : List HeldPart) (marks : List Bool) (hi lo : List A)
+module _ {A : Type 0} (joining : Bool) (columns : ℕ) (holds : A → ℕ → Bool) (parts : List MachinePart) (marks : List Bool) (hi lo : List A)
     (readers : List (Vec ℕ Global)) (room : Rooms) (runs : IsRunnable parts marks (length hi) readers room) (even : length lo ≡ length hi)
     (first : List Bool) (changes : List (TruthChange A)) (done : List ℕ) (took : AreTaken marks first done)
     (evaluated : Evaluated joining parts columns holds hi lo changes done) (rest : (k : ℕ) → ¬ IsMarked first k)

@@ -7,7 +7,7 @@ use Rattle.std.proofs.lemmas.List.Elements.{All-contains, Contains-push, Contain
 use Rattle.truth_columns.specs.Columns.{values_in}
 use Rattle.truth_columns.proofs.ColumnLemmas.{length-values_in, value_at}
 use Rattle.machine_parts.specs.Marking.{IsMarked, MarksAll}
-use Rattle.truth_parts.specs.declared.desk.TruthChange.{TruthChange}
+use Rattle.truth_parts.specs.declared.workspace.TruthChange.{TruthChange}
 use Rattle.truth_parts.specs.Columns.{rail_in}
 use Rattle.truth_parts.specs.Noting.{IsOf}
 use Rattle.truth_parts.specs.Evaluating.{AreTaken}

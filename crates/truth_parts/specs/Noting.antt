@@ -1,6 +1,6 @@
 -- Changes of nodes in truths: what is noted of the next rails of a part's members.
 use Rattle.std.specs.Prelude.{◌≡◌, ℕ, ◌<◌, ◌⊎◌, Bool, true, false, ◌||◌, List, [], ◌∷◌, ◌++◌, length, Contains, slice_index, Option, Some, None}
-use Rattle.truth_parts.specs.declared.desk.TruthChange.{TruthChange}
+use Rattle.truth_parts.specs.declared.workspace.TruthChange.{TruthChange}
 use Rattle.truth_parts.specs.Columns.{rail_in}
 
 -- a rail of a node that is given one: a joining step joins both

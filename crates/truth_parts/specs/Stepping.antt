@@ -3,20 +3,20 @@ use Rattle.std.specs.Prelude.{◌≡◌, ◌≢◌, ℕ, ◌<◌, ◌≤◌, ◌
 use Rattle.std.specs.List.{sum_by}
 use Rattle.std.proofs.Common.{Global}
 use Rattle.ternary.specs.declared.tern.Tern.{Tern}
-use Rattle.oscillation_x.specs.Settling.{StaysOrBecomesX}
+use Rattle.settling.specs.Settling.{StaysOrBecomesX}
 use Rattle.truth_columns.specs.Columns.{HasColumn}
-use Rattle.machine_parts.specs.declared.part.HeldPart.{HeldPart}
+use Rattle.machine_parts.specs.declared.part.MachinePart.{MachinePart}
 use Rattle.machine_parts.specs.Parts.{IsStale, AreApart}
 use Rattle.machine_parts.specs.Marking.{members_of, IsReached}
 use Rattle.machine_parts.specs.Stepping.{Moves}
 use Rattle.machine_laws.specs.Columns.{KeepsMarks}
 use Rattle.part_lists.specs.Listing.{listed_at, AreLists}
-use Rattle.truth_parts.specs.declared.desk.TruthChange.{TruthChange}
+use Rattle.truth_parts.specs.declared.workspace.TruthChange.{TruthChange}
 use Rattle.truth_parts.specs.Columns.{states_in, IsColumn}
 use Rattle.truth_parts.specs.Evaluating.{Rooms, IsSeated}
 
 -- the parts are seated, share no members, have marks, and none of them is stale; each node has its readers; and there is room for a step
-pub record IsRunnable (parts : List HeldPart) (marks : List Bool) (count : ℕ) (readers : List (Vec ℕ Global)) (room : Rooms) : Type 0 where
+pub record IsRunnable (parts : List MachinePart) (marks : List Bool) (count : ℕ) (readers : List (Vec ℕ Global)) (room : Rooms) : Type 0 where
   pub counted : length marks ≡ length parts
   pub seated : All (IsSeated count room) parts
   pub apart : AreApart parts
@@ -58,7 +58,7 @@ abbrev pub ReadsAny : {A : Type 0} → List (Vec ℕ Global) → List (TruthChan
 ReadsAny {A} readers = IsReached (λ (change : TruthChange A). listed_at readers change.node)
 
 -- a column takes a step, plain or joining
-pub record StepsTo (joining : Bool) (parts : List HeldPart) (marks new_marks : List Bool) (state next : List Tern) : Type 0 where
+pub record StepsTo (joining : Bool) (parts : List MachinePart) (marks new_marks : List Bool) (state next : List Tern) : Type 0 where
   pub moves : Moves joining parts marks state next
   pub keeps : KeepsMarks joining parts marks state next new_marks
   pub unknown : joining ≡ true → StaysOrBecomesX state next
@@ -70,7 +70,7 @@ pub record MovesSome {A : Type 0} (columns : ℕ) (holds : A → ℕ → Bool) (
   pub other : (state : List Tern) → HasColumn holds column hi lo state → states_in holds column new_hi new_lo ≢ state
 
 -- each column takes a step, and whether some column changed is told
-pub record StepsInAll {A : Type 0} (joining : Bool) (parts : List HeldPart) (columns : ℕ) (holds : A → ℕ → Bool) (marks new_marks : List Bool)
+pub record StepsInAll {A : Type 0} (joining : Bool) (parts : List MachinePart) (columns : ℕ) (holds : A → ℕ → Bool) (marks new_marks : List Bool)
     (hi lo new_hi new_lo : List A) (moved : Bool) : Type 0 where
   pub highs : length new_hi ≡ length hi
   pub lows : length new_lo ≡ length lo

@@ -1,17 +1,17 @@
 //! The evaluation of the marked parts: their codes run on the old rails, and what changes is noted.
 ghost use Rattle.std.specs.Prelude.{◌≡◌, ℕ, ◌+◌, ◌*◌, ◌<◌, ◌≤◌, List, [], length, map, take, All, vec_len, vec_capacity, OnOk};
 ghost use Rattle.ternary.specs.declared.tern.Tern.{Tern};
-ghost use Rattle.path_meaning.specs.Switching.{state_at};
+ghost use Rattle.switch_paths.specs.Switching.{state_at};
 ghost use Rattle.straight_code.specs.Code.{code_value};
 ghost use Rattle.truth_columns.specs.Columns.{AreKept, HasColumn};
-ghost use Rattle.machine_parts.specs.declared.part.HeldPart.{HeldPart};
+ghost use Rattle.machine_parts.specs.declared.part.MachinePart.{MachinePart};
 ghost use Rattle.machine_parts.specs.Words.{Stands, IsMarked, count_marked, marked_sum, members_of};
 ghost use Rattle.truth_parts.specs.Noting.{IsOf, Notes};
-ghost use Rattle.truth_parts.specs.Evaluating.{rooms, AreTaken, Evaluated, IsDesk, IsSeated, Reports};
+ghost use Rattle.truth_parts.specs.Evaluating.{rooms, AreTaken, Evaluated, IsWorkspace, IsSeated, Reports};
 
-use crate::desk::Desk;
 use crate::noting::note_all;
-use machine_parts::HeldPart;
+use crate::workspace::Workspace;
+use machine_parts::MachinePart;
 use part_lists::Agenda;
 use straight_code::Code;
 use truth_columns::{Truths, fill, run_steps, write_outputs};
@@ -23,33 +23,33 @@ use truth_columns::{Truths, fill, run_steps, write_outputs};
 pub fn evaluate_all<T: Truths>(
     joining: bool,
     truths: &mut T,
-    parts: &[HeldPart],
+    parts: &[MachinePart],
     hi: &[T::Truth],
     lo: &[T::Truth],
     agenda: &mut Agenda,
-    desk: &mut Desk<T::Truth>,
+    workspace: &mut Workspace<T::Truth>,
 ) -> Result<(), T::Fault>
     requires counted { length agenda.old ≡ length parts.now }
     requires rails { length lo.now ≡ length hi.now }
     requires highs { All (T.has truths.old) hi.now }
     requires lows { All (T.has truths.old) lo.now }
-    requires seated { All (IsSeated (length hi.now) (rooms desk.old)) parts.now }
-    requires desk { IsDesk (T.has truths.old) desk.old }
-    requires changes { desk.old.changes.items ≡ [] }
-    requires done { desk.old.done.items ≡ [] }
-    requires changes_room { marked_sum members_of parts.now agenda.old ≤ vec_capacity desk.old.changes }
-    requires done_room { count_marked agenda.old ≤ vec_capacity desk.old.done }
+    requires seated { All (IsSeated (length hi.now) (rooms workspace.old)) parts.now }
+    requires workspace { IsWorkspace (T.has truths.old) workspace.old }
+    requires changes { workspace.old.changes.items ≡ [] }
+    requires done { workspace.old.done.items ≡ [] }
+    requires changes_room { marked_sum members_of parts.now agenda.old ≤ vec_capacity workspace.old.changes }
+    requires done_room { count_marked agenda.old ≤ vec_capacity workspace.old.done }
     ensures kept { AreKept (T.columns truths.old) (T.has truths.old) (T.holds truths.old) (T.columns truths.new) (T.has truths.new) (T.holds truths.new) }
-    ensures taken { AreTaken agenda.old agenda.new desk.new.done.items }
-    ensures evaluated { OnOk result (Evaluated joining parts.now (T.columns truths.new) (T.holds truths.new) hi.now lo.now desk.new.changes.items desk.new.done.items) }
-    ensures own { All (IsOf (T.has truths.new)) desk.new.changes.items }
+    ensures taken { AreTaken agenda.old agenda.new workspace.new.done.items }
+    ensures evaluated { OnOk result (Evaluated joining parts.now (T.columns truths.new) (T.holds truths.new) hi.now lo.now workspace.new.changes.items workspace.new.done.items) }
+    ensures own { All (IsOf (T.has truths.new)) workspace.new.changes.items }
     ensures rest { OnOk result ((k : ℕ) → ¬ IsMarked agenda.new k) }
-    ensures rooms { rooms desk.new ≡ rooms desk.old }
-    ensures desk { IsDesk (T.has truths.new) desk.new }
+    ensures rooms { rooms workspace.new ≡ rooms workspace.old }
+    ensures workspace { IsWorkspace (T.has truths.new) workspace.new }
 {
     while let Some(k) = agenda.pop() {
-        desk.done.push_reserved(k);
-        evaluate(joining, truths, &parts[k], hi, lo, desk)?;
+        workspace.done.push_reserved(k);
+        evaluate(joining, truths, &parts[k], hi, lo, workspace)?;
     }
     Ok(())
 }
@@ -58,31 +58,31 @@ pub fn evaluate_all<T: Truths>(
 fn evaluate<T: Truths>(
     joining: bool,
     truths: &mut T,
-    part: &HeldPart,
+    part: &MachinePart,
     hi: &[T::Truth],
     lo: &[T::Truth],
-    desk: &mut Desk<T::Truth>,
+    workspace: &mut Workspace<T::Truth>,
 ) -> Result<(), T::Fault>
     requires rails { length lo.now ≡ length hi.now }
     requires highs { All (T.has truths.old) hi.now }
     requires lows { All (T.has truths.old) lo.now }
-    requires seated { IsSeated (length hi.now) (rooms desk.old) part.now }
-    requires desk { IsDesk (T.has truths.old) desk.old }
-    requires own { All (IsOf (T.has truths.old)) desk.old.changes.items }
-    requires room { vec_len desk.old.changes + part.now.members ≤ vec_capacity desk.old.changes }
+    requires seated { IsSeated (length hi.now) (rooms workspace.old) part.now }
+    requires workspace { IsWorkspace (T.has truths.old) workspace.old }
+    requires own { All (IsOf (T.has truths.old)) workspace.old.changes.items }
+    requires room { vec_len workspace.old.changes + part.now.members ≤ vec_capacity workspace.old.changes }
     ensures kept { AreKept (T.columns truths.old) (T.has truths.old) (T.holds truths.old) (T.columns truths.new) (T.has truths.new) (T.holds truths.new) }
-    ensures changes { OnOk result ((parts : List HeldPart) (k : ℕ) → Stands parts k part.now
-        → Reports joining parts (T.columns truths.new) (T.holds truths.new) hi.now lo.now k desk.old.changes.items desk.new.changes.items) }
-    ensures own { All (IsOf (T.has truths.new)) desk.new.changes.items }
-    ensures few { vec_len desk.new.changes ≤ vec_len desk.old.changes + part.now.members }
-    ensures done { desk.new.done ≡ desk.old.done }
-    ensures rooms { rooms desk.new ≡ rooms desk.old }
-    ensures desk { IsDesk (T.has truths.new) desk.new }
+    ensures changes { OnOk result ((parts : List MachinePart) (k : ℕ) → Stands parts k part.now
+        → Reports joining parts (T.columns truths.new) (T.holds truths.new) hi.now lo.now k workspace.old.changes.items workspace.new.changes.items) }
+    ensures own { All (IsOf (T.has truths.new)) workspace.new.changes.items }
+    ensures few { vec_len workspace.new.changes ≤ vec_len workspace.old.changes + part.now.members }
+    ensures done { workspace.new.done ≡ workspace.old.done }
+    ensures rooms { rooms workspace.new ≡ rooms workspace.old }
+    ensures workspace { IsWorkspace (T.has truths.new) workspace.new }
 {
     match &part.code {
         Some(code) => {
-            run_part(truths, code, &part.map, hi, lo, desk)?;
-            note_outputs(joining, truths, part, hi, lo, desk)?;
+            run_part(truths, code, &part.map, hi, lo, workspace)?;
+            note_outputs(joining, truths, part, hi, lo, workspace)?;
             Ok(())
         }
         None => Ok(()),
@@ -96,24 +96,24 @@ fn run_part<T: Truths>(
     nodes: &[usize],
     hi: &[T::Truth],
     lo: &[T::Truth],
-    desk: &mut Desk<T::Truth>,
+    workspace: &mut Workspace<T::Truth>,
 ) -> Result<(), T::Fault>
     requires rails { length lo.now ≡ length hi.now }
     requires nodes { length nodes.now ≡ code.now.inputs }
     requires below { All (λ node. node < length hi.now) nodes.now }
-    requires values { 2 + 2 * code.now.inputs + length code.now.instructions ≤ length desk.old.values.items }
-    requires outs { length code.now.outputs ≤ length desk.old.out_hi.items }
+    requires values { 2 + 2 * code.now.inputs + length code.now.instructions ≤ length workspace.old.values.items }
+    requires outs { length code.now.outputs ≤ length workspace.old.out_hi.items }
     requires highs { All (T.has truths.old) hi.now }
     requires lows { All (T.has truths.old) lo.now }
-    requires desk { IsDesk (T.has truths.old) desk.old }
+    requires workspace { IsWorkspace (T.has truths.old) workspace.old }
     ensures kept { AreKept (T.columns truths.old) (T.has truths.old) (T.holds truths.old) (T.columns truths.new) (T.has truths.new) (T.holds truths.new) }
     ensures value { OnOk result ((column : ℕ) (state : List Tern) → column < T.columns truths.old → HasColumn (T.holds truths.old) column hi.now lo.now state
-        → HasColumn (T.holds truths.new) column (take (length code.now.outputs) desk.new.out_hi.items) (take (length code.now.outputs) desk.new.out_lo.items)
+        → HasColumn (T.holds truths.new) column (take (length code.now.outputs) workspace.new.out_hi.items) (take (length code.now.outputs) workspace.new.out_lo.items)
         (code_value code.now (map (state_at state) nodes.now))) }
-    ensures changes { desk.new.changes ≡ desk.old.changes }
-    ensures done { desk.new.done ≡ desk.old.done }
-    ensures rooms { rooms desk.new ≡ rooms desk.old }
-    ensures desk { IsDesk (T.has truths.new) desk.new }
+    ensures changes { workspace.new.changes ≡ workspace.old.changes }
+    ensures done { workspace.new.done ≡ workspace.old.done }
+    ensures rooms { rooms workspace.new ≡ rooms workspace.old }
+    ensures workspace { IsWorkspace (T.has truths.new) workspace.new }
 {
     run_front(
         truths,
@@ -121,9 +121,9 @@ fn run_part<T: Truths>(
         nodes,
         hi,
         lo,
-        &mut desk.values,
-        &mut desk.out_hi,
-        &mut desk.out_lo,
+        &mut workspace.values,
+        &mut workspace.out_hi,
+        &mut workspace.out_lo,
     )
 }
 
@@ -167,32 +167,32 @@ fn run_front<T: Truths>(
 fn note_outputs<T: Truths>(
     joining: bool,
     truths: &mut T,
-    part: &HeldPart,
+    part: &MachinePart,
     hi: &[T::Truth],
     lo: &[T::Truth],
-    desk: &mut Desk<T::Truth>,
+    workspace: &mut Workspace<T::Truth>,
 ) -> Result<(), T::Fault>
     requires rails { length lo.now ≡ length hi.now }
     requires highs { All (T.has truths.old) hi.now }
     requires lows { All (T.has truths.old) lo.now }
     requires below { All (λ node. node < length hi.now) part.now.map.items }
     requires front { part.now.members ≤ length part.now.map.items }
-    requires outs { part.now.members ≤ length desk.old.out_hi.items }
-    requires desk { IsDesk (T.has truths.old) desk.old }
-    requires own { All (IsOf (T.has truths.old)) desk.old.changes.items }
-    requires room { vec_len desk.old.changes + part.now.members ≤ vec_capacity desk.old.changes }
+    requires outs { part.now.members ≤ length workspace.old.out_hi.items }
+    requires workspace { IsWorkspace (T.has truths.old) workspace.old }
+    requires own { All (IsOf (T.has truths.old)) workspace.old.changes.items }
+    requires room { vec_len workspace.old.changes + part.now.members ≤ vec_capacity workspace.old.changes }
     ensures kept { AreKept (T.columns truths.old) (T.has truths.old) (T.holds truths.old) (T.columns truths.new) (T.has truths.new) (T.holds truths.new) }
     ensures changes { OnOk result (Notes joining (T.columns truths.new) (T.holds truths.new) part.now.map.items hi.now lo.now
-        (take part.now.members desk.old.out_hi.items) (take part.now.members desk.old.out_lo.items) part.now.members
-        desk.old.changes.items desk.new.changes.items) }
-    ensures own { All (IsOf (T.has truths.new)) desk.new.changes.items }
-    ensures few { vec_len desk.new.changes ≤ vec_len desk.old.changes + part.now.members }
-    ensures done { desk.new.done ≡ desk.old.done }
-    ensures rooms { rooms desk.new ≡ rooms desk.old }
-    ensures desk { IsDesk (T.has truths.new) desk.new }
+        (take part.now.members workspace.old.out_hi.items) (take part.now.members workspace.old.out_lo.items) part.now.members
+        workspace.old.changes.items workspace.new.changes.items) }
+    ensures own { All (IsOf (T.has truths.new)) workspace.new.changes.items }
+    ensures few { vec_len workspace.new.changes ≤ vec_len workspace.old.changes + part.now.members }
+    ensures done { workspace.new.done ≡ workspace.old.done }
+    ensures rooms { rooms workspace.new ≡ rooms workspace.old }
+    ensures workspace { IsWorkspace (T.has truths.new) workspace.new }
 {
-    let ones = &desk.out_hi[..part.members];
-    let others = &desk.out_lo[..part.members];
+    let ones = &workspace.out_hi[..part.members];
+    let others = &workspace.out_lo[..part.members];
     note_all(
         joining,
         truths,
@@ -201,6 +201,6 @@ fn note_outputs<T: Truths>(
         lo,
         ones,
         others,
-        &mut desk.changes,
+        &mut workspace.changes,
     )
 }

@@ -20,13 +20,13 @@
 //! After Bryant, Beatty, Brace, Cho and Sheffler, "COSMOS: A Compiled Simulator for MOS Circuits", 1987.
 #![tactic(auto)]
 
-mod desk;
 mod evaluation;
 mod noting;
 mod stepping;
 mod taking;
+mod workspace;
 
-pub use desk::{Desk, TruthChange, desk_for};
 pub use evaluation::evaluate_all;
 pub use stepping::{advance, mark_again};
 pub use taking::take_over;
+pub use workspace::{TruthChange, Workspace, workspace_for};

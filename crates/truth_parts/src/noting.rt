@@ -4,7 +4,7 @@ ghost use Rattle.std.specs.Bool.{OnTrue};
 ghost use Rattle.truth_columns.specs.Columns.{AreKept};
 ghost use Rattle.truth_parts.specs.Noting.{after_rail, with_found, AreAlike, AreUnlike, IsNextFrom, IsOf, Notes, StaysBy};
 
-use crate::desk::TruthChange;
+use crate::workspace::TruthChange;
 use straight_code::StepKind;
 use truth_columns::Truths;
 

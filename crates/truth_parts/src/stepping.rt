@@ -2,13 +2,13 @@
 ghost use Rattle.std.specs.Prelude.{◌≡◌, ℕ, ◌<◌, Bool, true, List, length, All, Contains, IfOk, OnErr};
 ghost use Rattle.truth_columns.specs.Columns.{AreKept};
 ghost use Rattle.machine_parts.specs.Marking.{MarksAll};
-ghost use Rattle.truth_parts.specs.Evaluating.{rooms, AreTaken, IsDesk};
+ghost use Rattle.truth_parts.specs.Evaluating.{rooms, AreTaken, IsWorkspace};
 ghost use Rattle.truth_parts.specs.Stepping.{IsRunnable, StepsInAll};
 
-use crate::desk::Desk;
 use crate::evaluation::evaluate_all;
 use crate::taking::take_over;
-use machine_parts::HeldPart;
+use crate::workspace::Workspace;
+use machine_parts::MachinePart;
 use part_lists::{Agenda, mark_all};
 use truth_columns::Truths;
 
@@ -19,18 +19,18 @@ use truth_columns::Truths;
 pub fn advance<T: Truths>(
     joining: bool,
     truths: &mut T,
-    parts: &[HeldPart],
+    parts: &[MachinePart],
     readers: &[Vec<usize>],
     hi: &mut [T::Truth],
     lo: &mut [T::Truth],
     agenda: &mut Agenda,
-    desk: &mut Desk<T::Truth>,
+    workspace: &mut Workspace<T::Truth>,
 ) -> Result<bool, T::Fault>
     requires rails { length lo.old ≡ length hi.old }
     requires highs { All (T.has truths.old) hi.old }
     requires lows { All (T.has truths.old) lo.old }
-    requires runnable { IsRunnable parts.now agenda.old (length hi.old) readers.now (rooms desk.old) }
-    requires desk { IsDesk (T.has truths.old) desk.old }
+    requires runnable { IsRunnable parts.now agenda.old (length hi.old) readers.now (rooms workspace.old) }
+    requires workspace { IsWorkspace (T.has truths.old) workspace.old }
     ensures kept { AreKept (T.columns truths.old) (T.has truths.old) (T.holds truths.old) (T.columns truths.new) (T.has truths.new) (T.holds truths.new) }
     ensures highs { All (T.has truths.new) hi.new }
     ensures lows { All (T.has truths.new) lo.new }
@@ -38,19 +38,19 @@ pub fn advance<T: Truths>(
     ensures err_highs { OnErr result (hi.new ≡ hi.old) }
     ensures err_lows { OnErr result (lo.new ≡ lo.old) }
     ensures err_marks { OnErr result (agenda.new ≡ agenda.old) }
-    ensures rooms { rooms desk.new ≡ rooms desk.old }
-    ensures desk { IsDesk (T.has truths.new) desk.new }
+    ensures rooms { rooms workspace.new ≡ rooms workspace.old }
+    ensures workspace { IsWorkspace (T.has truths.new) workspace.new }
 {
-    desk.changes.clear();
-    desk.done.clear();
-    match evaluate_all(joining, truths, parts, hi, lo, agenda, desk) {
+    workspace.changes.clear();
+    workspace.done.clear();
+    match evaluate_all(joining, truths, parts, hi, lo, agenda, workspace) {
         Ok(()) => {
-            mark_again(joining, &desk.done, agenda);
-            take_over(&desk.changes, readers, hi, lo, agenda);
-            Ok(!desk.changes.is_empty())
+            mark_again(joining, &workspace.done, agenda);
+            take_over(&workspace.changes, readers, hi, lo, agenda);
+            Ok(!workspace.changes.is_empty())
         }
         Err(fault) => {
-            put_back(&desk.done, agenda);
+            put_back(&workspace.done, agenda);
             Err(fault)
         }
     }

@@ -2,10 +2,10 @@
 ghost use Rattle.std.specs.Prelude.{◌≡◌, ℕ, ◌<◌, length, All, Contains};
 ghost use Rattle.machine_parts.specs.Marking.{MarksAll};
 ghost use Rattle.part_lists.specs.Listing.{listed_at};
-ghost use Rattle.truth_parts.specs.declared.desk.TruthChange.{TruthChange};
+ghost use Rattle.truth_parts.specs.declared.workspace.TruthChange.{TruthChange};
 ghost use Rattle.truth_parts.specs.Stepping.{AreWritten, ReadsAny};
 
-use crate::desk::TruthChange;
+use crate::workspace::TruthChange;
 use part_lists::{Agenda, mark_all};
 
 /// Writes the changes into the rails, and marks the parts that read a node that changes.

@@ -3,13 +3,13 @@ use Rattle.std.proofs.Common.{ℕ, inl, inr, List}
 use Rattle.std.specs.Prelude.{Bool, Option}
 use Rattle.smallvec.specs.SmallVec.{SmallVec}
 use Rattle.ternary.specs.declared.tern.Tern.{Tern}
-use Rattle.machine_parts.specs.declared.part.HeldPart.{HeldPart}
+use Rattle.machine_parts.specs.declared.part.MachinePart.{MachinePart}
 use Rattle.machine_parts.specs.Evaluating.{Rooms}
 use Rattle.machine_parts.specs.Running.{AreOwners, IsRunnable}
 use Rattle.run_beside.specs.Noticing.{KeepsApart}
 use Rattle.unit_step.specs.Beside.{KeepsPartsApart}
 
-module _ (parts : List HeldPart) (marks waiting : List Bool) (count : ℕ) (readers : List (SmallVec ℕ)) (room : Rooms)
+module _ (parts : List MachinePart) (marks waiting : List Bool) (count : ℕ) (readers : List (SmallVec ℕ)) (room : Rooms)
     (runs : IsRunnable parts marks waiting count readers room) (owners : List (Option ℕ)) (owned : AreOwners parts count owners) (apart : List Bool)
     (good bad : List Tern) where
   -- what the lists say, the parts say

@@ -10,7 +10,7 @@ use Rattle.std.proofs.lemmas.Option.{same_Some, none-some, slice_get_within, get
 use Rattle.std.proofs.lemmas.Slice.Zip.{AllZip-long}
 use Rattle.ternary.specs.declared.memory.NoMemory.{NoMemory}
 use Rattle.ternary.specs.declared.tern.Tern.{Tern}
-use Rattle.path_meaning.specs.Graphs.{GraphData, IsWired, nodes}
+use Rattle.switch_paths.specs.Graphs.{GraphData, IsWired, nodes}
 use Rattle.group_meaning.specs.Groups.{Group, IsGroup}
 use Rattle.channel_groups.specs.Grouping.{GroupsData}
 use Rattle.group_text.specs.Texts.{GroupTextData}
@@ -24,7 +24,7 @@ use Rattle.circuit_texts.proofs.PairedLists.{partner_first}
 use Rattle.circuit_texts.proofs.PartLemmas.{IsPart-from_group}
 use Rattle.kept_parts.specs.Uses.{UsesData, texts_used}
 use Rattle.kept_parts.specs.Coded.{AreCoded}
-use Rattle.machine_parts.specs.declared.part.HeldPart.{HeldPart}
+use Rattle.machine_parts.specs.declared.part.MachinePart.{MachinePart}
 use Rattle.machine_parts.specs.Parts.{AreApart, IsStale}
 use Rattle.machine_parts.specs.Marking.{IsMarked}
 use Rattle.machine_parts.specs.Making.{held, IsFormed}
@@ -37,15 +37,15 @@ use Rattle.machine_laws.proofs.HeldLemmas.{known_or_not}
 use Rattle.machine_laws.proofs.StayingParts.{at-Stands, part_here}
 use Rattle.machine_laws.specs.Holding.{IsReady}
 use Rattle.machine_laws.specs.Seating.{IsStalePartOf}
-use Rattle.machine_laws.proofs.LastingGroups.{HasLast-order}
+use Rattle.machine_laws.proofs.LastTextsGroups.{HasLast-order}
 use Rattle.machine_laws.proofs.RenewingLemmas.{members_inside, members_once}
 use Rattle.unit_step.specs.declared.planning.Plan.{Plan}
 use Rattle.unit_step.specs.declared.body.Body.{Body}
 use Rattle.unit_step.specs.Bodies.{started, of_body, IsCodedAt}
 use Rattle.unit_step.specs.Planning.{IsPlan}
-use Rattle.unit_step.specs.Lasting.{texts_lasting}
+use Rattle.unit_step.specs.LastTexts.{texts_of_last}
 use Rattle.unit_step.proofs.BuildLemmas.{append_cases, fresh_parts, lists_inside, numbers_counted, apart_started, some_started, untold_coded, IsReady-started}
-use Rattle.unit_step.proofs.FinishingRoused.{fresh-loosened, formed-loosened, below-loosened}
+use Rattle.unit_step.proofs.FinishingReadied.{fresh-loosened, formed-loosened, below-loosened}
 
 -- of so many marks that are all set each is
 all_set : (n k : ℕ) → IsMarked (replicate n true) k → k < n
@@ -59,7 +59,7 @@ set_all (suc n) zero inside = refl
 set_all (suc n) (suc k) inside = set_all n k (omega (arith, inside))
 
 -- where all parts wait but those with code, the stale ones do
-pub waits_coded : (parts : List HeldPart) (coded : List ℕ) (n : ℕ) → n ≡ length parts → All (λ (part : HeldPart). 0 < part.members) parts →
+pub waits_coded : (parts : List MachinePart) (coded : List ℕ) (n : ℕ) → n ≡ length parts → All (λ (part : MachinePart). 0 < part.members) parts →
     ((k : ℕ) → Contains coded k ↔ IsCodedAt parts k) → (k : ℕ) → (IsMarked (replicate n true) k × (¬ Contains coded k)) ↔ IsStale parts k
 waits_coded parts coded n long some are k = (to, back)
   where
@@ -71,7 +71,7 @@ waits_coded parts coded n long some are k = (to, back)
           | inl (code, is) ↦
               absurd (other ((are k).1 (record { part = part; there = at-Stands parts k part stands; coded = λ none. absurd (cc (none, is)) })))
           | inr none ↦
-              let has : 0 < part.members = subst (λ (one : HeldPart). 0 < one.members) stands.here (some k part inside) in
+              let has : 0 < part.members = subst (λ (one : MachinePart). 0 < one.members) stands.here (some k part inside) in
               record { part = part; stands = stands; some = has; none = none }
         ]
 
@@ -82,16 +82,16 @@ waits_coded parts coded n long some are k = (to, back)
           let has = (are k).0 there in
           let both : Some has.part ≡ Some stale.part = sym has.there ∙ at-Stands parts k stale.part stale.stands in
           let same : has.part ≡ stale.part = cc in
-          has.coded (ap (λ (one : HeldPart). one.code) same ∙ stale.none),
+          has.coded (ap (λ (one : MachinePart). one.code) same ∙ stale.none),
     )
 
 -- the part that is held under a number has the code of the part with this number
-held_code : (parts : List Part) (reads : List (Vec ℕ Global)) (k : ℕ) (one : HeldPart) → slice_get (map held (zip parts reads)) k ≡ Some one →
+held_code : (parts : List Part) (reads : List (Vec ℕ Global)) (k : ℕ) (one : MachinePart) → slice_get (map held (zip parts reads)) k ≡ Some one →
     (part : Part) × (slice_get parts k ≡ Some part) × (one.code ≡ Some part.code)
 held_code [] reads k one at = absurd (none-some one at)
 held_code (part ∷ parts) [] k one at = absurd (none-some one at)
 held_code (part ∷ parts) (nodes ∷ reads) zero one at =
-    (part, refl, sym (ap (λ (p : HeldPart). p.code) (same_Some (held (part, nodes)) one at)))
+    (part, refl, sym (ap (λ (p : MachinePart). p.code) (same_Some (held (part, nodes)) one at)))
 held_code (part ∷ parts) (nodes ∷ reads) (suc k) one at = held_code parts reads k one at
 
 pub HaveCodes-held : (numbers : List (Option ℕ)) (parts : List Part) (reads : List (Vec ℕ Global)) → AreCoded numbers parts →
@@ -105,21 +105,21 @@ HaveCodes-held numbers parts reads are = record {
 }
 
 -- so it is if some have no code any more
-HaveCodes-loosened : (numbers : List (Option ℕ)) (old now : List HeldPart) → Loosens old now → HaveCodes numbers old → HaveCodes numbers now
+HaveCodes-loosened : (numbers : List (Option ℕ)) (old now : List MachinePart) → Loosens old now → HaveCodes numbers old → HaveCodes numbers now
 HaveCodes-loosened numbers old now loosens have = record {
   codes = have.codes;
   each = λ k n part code number_is part_is has.
       let inside : k < length old = omega (arith, slice_get_within now k part part_is, loosens.count) in
       let was_at = slice_get-get_or old k part inside in
       elim (loosens.each k (get_or old k part) part was_at part_is) [
-        | inl same ↦ have.each k n (get_or old k part) code number_is was_at (ap (λ (one : HeldPart). one.code) (sym same) ∙ has)
+        | inl same ↦ have.each k n (get_or old k part) code number_is was_at (ap (λ (one : MachinePart). one.code) (sym same) ∙ has)
         | inr loosened ↦ absurd (cc (loosened.code, has))
       ];
 }
 
 -- and so with stale parts behind, which have no number
-HaveCodes-behind : (numbers : List (Option ℕ)) (n : ℕ) (front behind : List HeldPart) → length front ≡ length numbers →
-    All (λ (part : HeldPart). part.code ≡ None) behind → HaveCodes numbers front → HaveCodes (numbers ++ replicate n None) (front ++ behind)
+HaveCodes-behind : (numbers : List (Option ℕ)) (n : ℕ) (front behind : List MachinePart) → length front ≡ length numbers →
+    All (λ (part : MachinePart). part.code ≡ None) behind → HaveCodes numbers front → HaveCodes (numbers ++ replicate n None) (front ++ behind)
 HaveCodes-behind numbers n front behind long stale have = record {
   codes = have.codes;
   each = λ k m part code number_is part_is has.
@@ -128,7 +128,7 @@ HaveCodes-behind numbers n front behind long stale have = record {
             have.each k m part code
             (front_number numbers (replicate n None) k (Some m) (omega (arith, slice_get_within front k part at, long)) number_is) at has
         | inr (j, place, at) ↦
-            let none = subst (λ (one : HeldPart). one.code ≡ None) (get_or_from_slice_get behind j part part at) (stale j part (slice_get_within behind j part at)) in
+            let none = subst (λ (one : MachinePart). one.code ≡ None) (get_or_from_slice_get behind j part part at) (stale j part (slice_get_within behind j part at)) in
             let both : None ≡ Some code = sym none ∙ has in
             absurd cc
       ];
@@ -150,7 +150,7 @@ used_behind known numbers n =
     none (suc n) = ap (λ rest. None ∷ rest) (none n)
 
 -- the part of a group without a text is formed
-stale_formed : (g : GraphData) (groups : List Group) → All (IsGroup g) groups → (parts : List HeldPart) →
+stale_formed : (g : GraphData) (groups : List Group) → All (IsGroup g) groups → (parts : List MachinePart) →
     AllZip (λ group part. IsStalePartOf group.members part) groups parts → All (IsFormed (nodes g)) parts
 stale_formed g groups each parts stale k d inside =
     let part = get_or parts k d in
@@ -165,7 +165,7 @@ stale_formed g groups each parts stale k d inside =
       outputs = λ code has. absurd (none_coded part code is.code has);
     }
   where
-    none_coded : (part : HeldPart) (code : Rc CodeData Global) → part.code ≡ None → part.code ≡ Some code → ⊥
+    none_coded : (part : MachinePart) (code : Rc CodeData Global) → part.code ≡ None → part.code ≡ Some code → ⊥
     none_coded part code none has =
         let both : None ≡ Some code = sym none ∙ has in
         absurd cc
@@ -180,13 +180,13 @@ codes_counted large g plan is_plan parts of =
     ∙ sym (numbers_counted large g plan.state.items plan is_plan)
 
 module _ (large : ℕ) (g : GraphData) (wired : IsWired g) (plan : Plan) (is_plan : IsPlan large g plan.state.items plan) (parts : List Part)
-    (of : AllZip (made.IsPartOf g) (with_text plan.groups.groups) parts) (behind : List HeldPart)
-    (stale : AllZip (λ group part. IsStalePartOf group.members part) (without_text plan.groups.groups) behind) (front : List HeldPart)
+    (of : AllZip (made.IsPartOf g) (with_text plan.groups.groups) parts) (behind : List MachinePart)
+    (stale : AllZip (λ group part. IsStalePartOf group.members part) (without_text plan.groups.groups) behind) (front : List MachinePart)
     (loosens : Loosens (map held (zip parts plan.reads.items)) front) where
   abbrev told_groups : List Group
   told_groups = with_text plan.groups.groups
 
-  abbrev with_codes : List HeldPart
+  abbrev with_codes : List MachinePart
   with_codes = map held (zip parts plan.reads.items)
 
   each_told : All (IsGroup g) told_groups
@@ -198,7 +198,7 @@ module _ (large : ℕ) (g : GraphData) (wired : IsWired g) (plan : Plan) (is_pla
   front_fresh : AllZip (IsFresh g) told_groups front
   front_fresh = fresh-loosened g told_groups with_codes front loosens (fresh_parts g told_groups each_told parts plan.reads.items of is_plan.reads)
 
-  is_stale : (k : ℕ) (d : HeldPart) → k < length behind → (members : List ℕ) × IsStalePartOf members (get_or behind k d)
+  is_stale : (k : ℕ) (d : MachinePart) → k < length behind → (members : List ℕ) × IsStalePartOf members (get_or behind k d)
   is_stale k d inside =
       let (group, at, is) = partner_first (λ group part. IsStalePartOf group.members part) (without_text plan.groups.groups) behind k (get_or behind k d) stale
       (slice_get-get_or behind k d inside) in
@@ -227,9 +227,9 @@ module _ (large : ℕ) (g : GraphData) (wired : IsWired g) (plan : Plan) (is_pla
   pub apart_planned : AreApart (front ++ behind)
   apart_planned = apart_started g plan.groups is_plan.are front behind front_fresh stale
 
-  pub reads_planned : All (λ (part : HeldPart). All (λ node. node < nodes g) part.reads.items) (front ++ behind)
+  pub reads_planned : All (λ (part : MachinePart). All (λ node. node < nodes g) part.reads.items) (front ++ behind)
   reads_planned =
-      All-append (λ (part : HeldPart). All (λ node. node < nodes g) part.reads.items) front behind
+      All-append (λ (part : MachinePart). All (λ node. node < nodes g) part.reads.items) front behind
       (below-loosened (nodes g) with_codes front loosens
       (reads_inside (nodes g) parts plan.reads.items (lists_inside g wired told_groups plan.reads.items is_plan.reads)))
       (λ k d inside. subst (All (λ node. node < nodes g)) (sym (is_stale k d inside).1.reads) (All-nil (λ node. node < nodes g)))
@@ -249,7 +249,7 @@ module _ (large : ℕ) (g : GraphData) (wired : IsWired g) (plan : Plan) (is_pla
         front_counted,
       )
 
-  pub some_planned : All (λ (part : HeldPart). 0 < part.members) (front ++ behind)
+  pub some_planned : All (λ (part : MachinePart). 0 < part.members) (front ++ behind)
   some_planned = some_started g plan.groups is_plan.are front behind front_fresh stale
 
   -- if none has lost its code, those that are stale have groups without a text
@@ -274,13 +274,13 @@ module _ (large : ℕ) (g : GraphData) (wired : IsWired g) (plan : Plan) (is_pla
       uses_same uses known_are numbers_are = λ i. record { known = known_are i; numbers = numbers_are i }
 
 -- the machine that starts with a body of these parts, in this state and with these texts
-pub of_body-of : (groups : Option GroupsData) (parts : Vec HeldPart Global) (state : Vec Tern Global) (uses : UsesData) (body : Body) →
+pub of_body-of : (groups : Option GroupsData) (parts : Vec MachinePart Global) (state : Vec Tern Global) (uses : UsesData) (body : Body) →
     body.groups ≡ groups → body.parts ≡ parts → body.state ≡ state → body.uses ≡ uses → (spare : ℕ) →
-    of_body body spare ≡ started groups parts.items state.items (texts_used uses) (texts_lasting uses.known body.lasting) spare
+    of_body body spare ≡ started groups parts.items state.items (texts_used uses) (texts_of_last uses.known body.last_texts) spare
 of_body-of groups parts state uses body groups_are parts_are state_is uses_are spare = λ i.
-    started (groups_are i) (parts_are i).items (state_is i).items (texts_used (uses_are i)) (texts_lasting (uses_are i).known body.lasting) spare
+    started (groups_are i) (parts_are i).items (state_is i).items (texts_used (uses_are i)) (texts_of_last (uses_are i).known body.last_texts) spare
 
-module _ (g : GraphData) (groups : Option GroupsData) (parts : Vec HeldPart Global) (state : Vec Tern Global) (uses : UsesData)
+module _ (g : GraphData) (groups : Option GroupsData) (parts : Vec MachinePart Global) (state : Vec Tern Global) (uses : UsesData)
     (ready : (last : List GroupTextData) (spare : ℕ) → IsReady g (started groups parts.items state.items (texts_used uses) last spare)) where
   -- so it is with a body of them
   pub IsReady-of_body : (result : Result Body NoMemory) → IfOk result (λ body. body.groups ≡ groups) → IfOk result (λ body. body.parts ≡ parts) →
@@ -288,28 +288,28 @@ module _ (g : GraphData) (groups : Option GroupsData) (parts : Vec HeldPart Glob
       IfOk result (λ body. (spare : ℕ) → IsReady g (of_body body spare))
   IsReady-of_body (Ok body) groups_are parts_are state_is uses_are = λ spare.
       subst (IsReady g) (sym (of_body-of groups parts state uses body groups_are parts_are state_is uses_are spare))
-      (ready (texts_lasting uses.known body.lasting) spare)
+      (ready (texts_of_last uses.known body.last_texts) spare)
   IsReady-of_body (Err fault) groups_are parts_are state_is uses_are = tt
 
   -- and the last texts are those of the groups
   pub HasLast-of_body : (result : Result Body NoMemory) → IfOk result (λ body. body.uses ≡ uses) →
-      IfOk result (λ body. AreInOrder parts.items (texts_used uses) (texts_lasting uses.known body.lasting)) →
-      IfOk result (λ body. HasLast g (texts_lasting body.uses.known body.lasting))
+      IfOk result (λ body. AreInOrder parts.items (texts_used uses) (texts_of_last uses.known body.last_texts)) →
+      IfOk result (λ body. HasLast g (texts_of_last body.uses.known body.last_texts))
   HasLast-of_body (Ok body) uses_are order =
-      let last = texts_lasting uses.known body.lasting in
+      let last = texts_of_last uses.known body.last_texts in
       let one = ready last 0 in
-      subst (λ (one : UsesData). HasLast g (texts_lasting one.known body.lasting)) (sym uses_are)
+      subst (λ (one : UsesData). HasLast g (texts_of_last one.known body.last_texts)) (sym uses_are)
       (HasLast-order g (started groups parts.items state.items (texts_used uses) last 0) one.covers one.told last order)
   HasLast-of_body (Err fault) uses_are order = tt
 
 -- what holds of the parts holds of those of the body
-pub AreUntold-of_body : (g : GraphData) (parts : Vec HeldPart Global) (result : Result Body NoMemory) → AreUntold g parts.items →
+pub AreUntold-of_body : (g : GraphData) (parts : Vec MachinePart Global) (result : Result Body NoMemory) → AreUntold g parts.items →
     IfOk result (λ body. body.parts ≡ parts) → IfOk result (λ body. AreUntold g body.parts.items)
-AreUntold-of_body g parts (Ok body) untold parts_are = subst (λ (list : Vec HeldPart Global). AreUntold g list.items) (sym parts_are) untold
+AreUntold-of_body g parts (Ok body) untold parts_are = subst (λ (list : Vec MachinePart Global). AreUntold g list.items) (sym parts_are) untold
 AreUntold-of_body g parts (Err fault) untold parts_are = tt
 
 -- the parts that have code are there
-pub coded_inside : (parts : List HeldPart) (coded : List ℕ) → ((k : ℕ) → Contains coded k ↔ IsCodedAt parts k) → All (λ k. k < length parts) coded
+pub coded_inside : (parts : List MachinePart) (coded : List ℕ) → ((k : ℕ) → Contains coded k ↔ IsCodedAt parts k) → All (λ k. k < length parts) coded
 coded_inside parts coded are i d inside =
     let k = get_or coded i d in
     let has = (are k).0 (Contains-get_or coded i d inside) in

@@ -12,7 +12,7 @@ use Rattle.std.proofs.lemmas.List.Kept.{AllPairs-from_increasing}
 use Rattle.std.proofs.lemmas.Slice.Zip.{AllZip-long}
 use Rattle.std.proofs.lemmas.Option.{slice_get_within, get_or_from_slice_get, slice_get_read, slice_get-get_or}
 use Rattle.ternary.specs.declared.tern.Tern.{Tern}
-use Rattle.path_meaning.specs.Graphs.{GraphData, IsWired, nodes}
+use Rattle.switch_paths.specs.Graphs.{GraphData, IsWired, nodes}
 use Rattle.list_facts.proofs.PlaceLemmas.{slice_get-grown}
 use Rattle.group_meaning.specs.Groups.{Group, IsGroup, id_of}
 use Rattle.group_meaning.proofs.UniqueGroups.{unique, same_by_member}
@@ -33,7 +33,7 @@ use Rattle.kept_parts.proofs.NumberLemmas as numbers
 use Rattle.circuit_texts.specs.Reading.{AreReads}
 use Rattle.circuit_texts.proofs.PairedLists.{partner_first, partner_second}
 use Rattle.circuit_texts.proofs.ReadLemmas.{read_inside}
-use Rattle.machine_parts.specs.declared.part.HeldPart.{HeldPart}
+use Rattle.machine_parts.specs.declared.part.MachinePart.{MachinePart}
 use Rattle.machine_parts.specs.Parts.{Stands, HasMember, AreApart}
 use Rattle.machine_parts.specs.Making.{held}
 use Rattle.unit_step.specs.Bodies.{started}
@@ -172,9 +172,9 @@ text_in_front [] n k text at = absurd cc
 text_in_front (first ∷ texts) n zero text at = at
 text_in_front (first ∷ texts) n (suc k) text at = text_in_front texts n k text at
 
-module _ (g : GraphData) (held : GroupsData) (are : AreOf g held) (front behind : List HeldPart)
+module _ (g : GraphData) (held : GroupsData) (are : AreOf g held) (front behind : List MachinePart)
     (fresh : AllZip (IsFresh g) (with_text held.groups) front) (stale : AllZip (λ group part. IsStalePartOf group.members part) (without_text held.groups) behind) where
-  abbrev parts : List HeldPart
+  abbrev parts : List MachinePart
   parts = front ++ behind
 
   each_group : (p : Group → Bool) (i : ℕ) (group : Group) → slice_get (filter p held.groups) i ≡ Some group → Contains held.groups group × IsGroup g group × (p group ≡ true)
@@ -183,24 +183,24 @@ module _ (g : GraphData) (held : GroupsData) (are : AreOf g held) (front behind 
       (there, subst (IsGroup g) there.2 (are.are.each there.0 group there.1), passes)
 
   -- the part of a group with a text, at its place
-  record IsTold (k : ℕ) (part : HeldPart) : Type 0 where
+  record IsTold (k : ℕ) (part : MachinePart) : Type 0 where
     pub group : Group
     pub at : slice_get (with_text held.groups) k ≡ Some group
     pub there : slice_get front k ≡ Some part
     pub is : IsFresh g group part
 
   -- and that of one without, behind
-  record IsLarge (k : ℕ) (part : HeldPart) : Type 0 where
+  record IsLarge (k : ℕ) (part : MachinePart) : Type 0 where
     pub j : ℕ
     pub place : k ≡ length front + j
     pub group : Group
     pub at : slice_get (without_text held.groups) j ≡ Some group
     pub is : IsStalePartOf group.members part
 
-  large_group : (k : ℕ) (part : HeldPart) (is : IsLarge k part) → IsGroup g is.group × (not (has_text is.group) ≡ true)
+  large_group : (k : ℕ) (part : MachinePart) (is : IsLarge k part) → IsGroup g is.group × (not (has_text is.group) ≡ true)
   large_group k part is = let (there, is_group, none) = each_group (λ one. not (has_text one)) is.j is.group is.at in (is_group, none)
 
-  large_part : (k : ℕ) (part : HeldPart) → Stands parts k part → (is : IsLarge k part) → IsPartOf g is.group part
+  large_part : (k : ℕ) (part : MachinePart) → Stands parts k part → (is : IsLarge k part) → IsPartOf g is.group part
   large_part k part stands is = record {
     is_group = (large_group k part is).0;
     count = is.is.members;
@@ -210,7 +210,7 @@ module _ (g : GraphData) (held : GroupsData) (are : AreOf g held) (front behind 
         absurd cc;
   }
 
-  part_cases : (k : ℕ) (part : HeldPart) → Stands parts k part → IsTold k part ⊎ IsLarge k part
+  part_cases : (k : ℕ) (part : MachinePart) → Stands parts k part → IsTold k part ⊎ IsLarge k part
   part_cases k part stands =
       let there : slice_get parts k ≡ Some part = slice_get_read parts (length parts) k part refl stands.inside (sym stands.here) in
       elim (append_cases front behind k part there) [
@@ -223,7 +223,7 @@ module _ (g : GraphData) (held : GroupsData) (are : AreOf g held) (front behind 
       ]
 
   -- a part stands where the list has it
-  stands_at : (k : ℕ) (part : HeldPart) → slice_get parts k ≡ Some part → Stands parts k part
+  stands_at : (k : ℕ) (part : MachinePart) → slice_get parts k ≡ Some part → Stands parts k part
   stands_at k part at = record { inside = slice_get_within parts k part at; here = get_or_from_slice_get parts k part part at }
 
   each : (i : ℕ) (group : Group) → slice_get held.groups i ≡ Some group → HasPart g parts group
@@ -246,7 +246,7 @@ module _ (g : GraphData) (held : GroupsData) (are : AreOf g held) (front behind 
             }
       ]
 
-  whole : (k : ℕ) (part : HeldPart) → Stands parts k part → 0 < part.members → (group : Group) × IsPartOf g group part
+  whole : (k : ℕ) (part : MachinePart) → Stands parts k part → 0 < part.members → (group : Group) × IsPartOf g group part
   whole k part stands some =
       elim (part_cases k part stands) [
         | inl is ↦ (is.group, is.is.is_part)
@@ -254,17 +254,17 @@ module _ (g : GraphData) (held : GroupsData) (are : AreOf g held) (front behind 
       ]
 
   -- one of those behind has a group without a text
-  large_untold : (k : ℕ) (part : HeldPart) (group : Group) → Stands parts k part → IsLarge k part → IsPartOf g group part → fault_in group ≢ None
+  large_untold : (k : ℕ) (part : MachinePart) (group : Group) → Stands parts k part → IsLarge k part → IsPartOf g group part → fault_in group ≢ None
   large_untold k part group stands is is_part =
       let same = one_group g is.group group part (large_part k part stands is) is_part in
       subst (λ one. fault_in one ≢ None) same (λ fits. untold_from_none is.group (large_group k part is).1 fits)
 
   -- and if all in front have code, each stale part has one
-  pub untold_coded : All (λ (part : HeldPart). part.code ≢ None) front → AreUntold g parts
+  pub untold_coded : All (λ (part : MachinePart). part.code ≢ None) front → AreUntold g parts
   untold_coded coded k part group stands none is_part =
       elim (part_cases k part stands) [
         | inl is ↦
-            absurd (subst (λ (one : HeldPart). one.code ≢ None) (get_or_from_slice_get front k part part is.there)
+            absurd (subst (λ (one : MachinePart). one.code ≢ None) (get_or_from_slice_get front k part part is.there)
             (coded k part (slice_get_within front k part is.there)) none)
         | inr is ↦ large_untold k part group stands is is_part
       ]
@@ -325,7 +325,7 @@ module _ (g : GraphData) (held : GroupsData) (are : AreOf g held) (front behind 
           untold_from_none group none (fit_from_text group has)
 
   -- each part has a member
-  pub some_started : All (λ (part : HeldPart). 0 < part.members) parts
+  pub some_started : All (λ (part : MachinePart). 0 < part.members) parts
   some_started k d inside =
       let part = get_or parts k d in
       elim (part_cases k part (stands_at k part (slice_get-get_or parts k d inside))) [
@@ -342,20 +342,20 @@ module _ (g : GraphData) (held : GroupsData) (are : AreOf g held) (front behind 
     told_long = length-map (with_text held.groups) (text_of_group g) ∙ sym (AllZip-long (IsFresh g) (with_text held.groups) front fresh)
 
     -- those in front have their texts
-    text_there : (k : ℕ) (part : HeldPart) (is : IsTold k part) → slice_index_or uses k None ≡ Some (text_of_group g is.group)
+    text_there : (k : ℕ) (part : MachinePart) (is : IsTold k part) → slice_index_or uses k None ≡ Some (text_of_group g is.group)
     text_there k part is =
         let text_at : slice_get (told g held.groups) k ≡ Some (text_of_group g is.group) = made_at (text_of_group g) (with_text held.groups) k is.group is.at in
         ap (λ list. slice_index_or list k None) uses_are ∙ text_in_front (told g held.groups) (length behind) k (text_of_group g is.group) text_at
 
     -- and those behind have none
-    text_lacks : (k : ℕ) (part : HeldPart) → IsLarge k part → slice_index_or uses k None ≡ None
+    text_lacks : (k : ℕ) (part : MachinePart) → IsLarge k part → slice_index_or uses k None ≡ None
     text_lacks k part is =
         let place : length (told g held.groups) + is.j ≡ k = omega (arith, is.place, told_long) in
         subst (λ i. slice_index_or uses i None ≡ None) place
         (ap (λ list. slice_index_or list (length (told g held.groups) + is.j) None) uses_are
         ∙ none_behind (told g held.groups) (length behind) is.j)
 
-    known : (k : ℕ) (part : HeldPart) → Stands parts k part → slice_index_or uses k None ≢ None → (group : Group) → IsPartOf g group part →
+    known : (k : ℕ) (part : MachinePart) → Stands parts k part → slice_index_or uses k None ≢ None → (group : Group) → IsPartOf g group part →
         IsTextOf g group (slice_index_or uses k None)
     known k part stands numbered group is_part =
         elim (part_cases k part stands) [
@@ -367,7 +367,7 @@ module _ (g : GraphData) (held : GroupsData) (are : AreOf g held) (front behind 
           | inr is ↦ absurd (numbered (text_lacks k part is))
         ]
 
-    numbered : (k : ℕ) (part : HeldPart) → IsTold k part → slice_index_or uses k None ≢ None
+    numbered : (k : ℕ) (part : MachinePart) → IsTold k part → slice_index_or uses k None ≢ None
     numbered k part is lacks =
         let both : Some (text_of_group g is.group) ≡ None = sym (text_there k part is) ∙ lacks in
         absurd cc

@@ -1,7 +1,7 @@
 -- The groups whose parts wait are due, but for those that are stepped by vicinities already.
 use Rattle.std.proofs.Common.{◌≡◌, ◌≢◌, ℕ, ◌≤◌, Bool, true, inl, inr, ◌⊎◌, filter, take, All, None, Result, Ok, Err, sym, ap, subst}
 use Rattle.std.specs.Prelude.{Contains, IfOk, IfErr, slice_index_or}
-use Rattle.path_meaning.specs.Graphs.{GraphData, IsStorage}
+use Rattle.switch_paths.specs.Graphs.{GraphData, IsStorage}
 use Rattle.group_meaning.specs.Groups.{Group, AreGroups, id_of}
 use Rattle.group_meaning.proofs.UniqueGroups.{id_member}
 use Rattle.channel_groups.specs.declared.group.GroupId.{GroupId}
@@ -13,7 +13,7 @@ use Rattle.circuit_texts.specs.Choosing.{chosen}
 use Rattle.kept_parts.specs.Uses.{count_distinct}
 use Rattle.wide_groups.specs.Moving.{graph_in}
 use Rattle.wide_groups.specs.Staying.{HoldsUpTo}
-use Rattle.machine_parts.specs.declared.part.HeldPart.{HeldPart}
+use Rattle.machine_parts.specs.declared.part.MachinePart.{MachinePart}
 use Rattle.machine_parts.specs.Parts.{Stands}
 use Rattle.machine_laws.specs.Machines.{MachineData, groups_in}
 use Rattle.machine_laws.specs.Fitting.{IsPartOf, Covers}
@@ -40,7 +40,7 @@ both_ok (Err fault) P Q one two = tt
 
 module _ (g : GraphData) (m : MachineData) (covers : Covers g m) where
   -- a group that is passed over is held, and isn't refused
-  passed_held : (large : ℕ) (k : ℕ) (part : HeldPart) (group : Group) → Stands m.parts k part → part.code ≡ None → IsPartOf g group part →
+  passed_held : (large : ℕ) (k : ℕ) (part : MachinePart) (group : Group) → Stands m.parts k part → part.code ≡ None → IsPartOf g group part →
       IsPassed large m.wide (id_of group) → (fault_in group ≡ None → slice_index_or m.uses k None ≢ None) × (refused_in large group ≡ None)
   passed_held large k part group stands stale is_part (up_to, node) =
       elim (known_or_not m.wide) [
@@ -61,11 +61,11 @@ module _ (g : GraphData) (m : MachineData) (covers : Covers g m) where
       ]
 
   -- so it has its text, if there is one
-  pub passed_told : (large : ℕ) (k : ℕ) (part : HeldPart) (group : Group) → Stands m.parts k part → part.code ≡ None → IsPartOf g group part →
+  pub passed_told : (large : ℕ) (k : ℕ) (part : MachinePart) (group : Group) → Stands m.parts k part → part.code ≡ None → IsPartOf g group part →
       IsPassed large m.wide (id_of group) → fault_in group ≡ None → slice_index_or m.uses k None ≢ None
   passed_told large k part group stands stale is_part passed = (passed_held large k part group stands stale is_part passed).0
 
-  pub passed_fits : (large : ℕ) (k : ℕ) (part : HeldPart) (group : Group) → Stands m.parts k part → part.code ≡ None → IsPartOf g group part →
+  pub passed_fits : (large : ℕ) (k : ℕ) (part : MachinePart) (group : Group) → Stands m.parts k part → part.code ≡ None → IsPartOf g group part →
       IsPassed large m.wide (id_of group) → refused_in large group ≡ None
   passed_fits large k part group stands stale is_part passed = (passed_held large k part group stands stale is_part passed).1
 
@@ -78,7 +78,7 @@ module _ (g : GraphData) (m : MachineData) (covers : Covers g m) where
       chosen covers.groups.groups sizes.large.items ≡ without_text (filter due covers.groups.groups) →
       All (λ (id : GroupId). IsId covers.groups.groups id.node) sizes.told.items →
       ((group : Group) → Contains covers.groups.groups group → due group ≡ true → (k : ℕ) × IsSlotOf g m.parts group k) →
-      ((k : ℕ) (part : HeldPart) (group : Group) → Stands m.parts k part → part.code ≡ None → IsPartOf g group part →
+      ((k : ℕ) (part : MachinePart) (group : Group) → Stands m.parts k part → part.code ≡ None → IsPartOf g group part →
       (due group ≡ true) ⊎ IsPassed large m.wide (id_of group)) → m.texts ≡ count_distinct m.uses → AreDue g m large sizes
   AreDue-found large sizes due told without told_ids slot all texts =
       let back = sym all_same in

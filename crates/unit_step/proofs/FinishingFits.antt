@@ -4,7 +4,7 @@ use Rattle.std.specs.Prelude.{slice_get, slice_index_or}
 use Rattle.std.proofs.lemmas.Bool.{cases_lt}
 use Rattle.std.proofs.lemmas.List.{get_or_default}
 use Rattle.std.proofs.lemmas.Option.{slice_get_read, slice_get_within, get_or_from_slice_get}
-use Rattle.path_meaning.specs.Graphs.{GraphData}
+use Rattle.switch_paths.specs.Graphs.{GraphData}
 use Rattle.group_meaning.specs.Groups.{Group}
 use Rattle.group_meaning.proofs.UniqueGroups.{unique}
 use Rattle.group_text.specs.Texts.{GroupTextData, text_of_group}
@@ -14,7 +14,7 @@ use Rattle.circuit_texts.specs.Told.{has_text, with_text, told}
 use Rattle.circuit_texts.proofs.ToldLemmas.{text_from_fit, fit_from_text}
 use Rattle.kept_parts.specs.Uses.{some_texts, count_distinct}
 use Rattle.kept_parts.proofs.PlaceLemmas.{or_true}
-use Rattle.machine_parts.specs.declared.part.HeldPart.{HeldPart}
+use Rattle.machine_parts.specs.declared.part.MachinePart.{MachinePart}
 use Rattle.machine_parts.specs.Parts.{Stands}
 use Rattle.machine_laws.specs.Machines.{MachineData}
 use Rattle.machine_laws.specs.Fitting.{Covers, AreTold}
@@ -107,7 +107,7 @@ module _ (g : GraphData) (m : MachineData) (covers : Covers g m) (have_texts : A
                 absurd cc
           ]
         where
-          part_at : (parts : List HeldPart) (k : ℕ) → k < length parts → (part : HeldPart) × Stands parts k part
+          part_at : (parts : List MachinePart) (k : ℕ) → k < length parts → (part : MachinePart) × Stands parts k part
           part_at [] k inside = absurd (omega (arith, inside))
           part_at (part ∷ parts) k inside = (get_or (part ∷ parts) k part, record { inside = inside; here = get_or_default (part ∷ parts) k _ part inside })
 

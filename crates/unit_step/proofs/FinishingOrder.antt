@@ -3,8 +3,8 @@
 use Rattle.std.proofs.Common.{◌≡◌, ℕ, Bool, true, false, not, inl, inr, List, ◌++◌, length, get_or, All, Option, refl, sym, ap, subst, ◌∙◌, arith, length-append}
 use Rattle.std.proofs.lemmas.List.{get_or_append_left}
 use Rattle.std.proofs.lemmas.List.Elements.{All-filter, All-weaker, filter_passes}
-use Rattle.path_meaning.specs.Graphs.{GraphData}
-use Rattle.path_meaning.specs.Rails.{IsRailed, IsSound}
+use Rattle.switch_paths.specs.Graphs.{GraphData}
+use Rattle.switch_paths.specs.Rails.{IsRailed, IsSound}
 use Rattle.group_meaning.proofs.UniqueGroups.{unique}
 use Rattle.group_text.specs.Texts.{GroupTextData}
 use Rattle.group_text.specs.FirstTexts.{is_among, first_texts, new_texts}
@@ -19,15 +19,15 @@ use Rattle.kept_parts.proofs.PlaceLemmas.{or_true}
 use Rattle.machine_laws.specs.Machines.{MachineData}
 use Rattle.machine_laws.specs.Fitting.{Covers, FitsGraph}
 use Rattle.vicinity.specs.Wides.{WideData}
-use Rattle.machine_laws.specs.Editing.{KeepsCoded, Finishes, Rouses}
+use Rattle.machine_laws.specs.Editing.{KeepsCoded, Finishes, MakesReady}
 use Rattle.machine_laws.specs.Beginnings.{AreInOrder, HasLast}
-use Rattle.unit_step.specs.Lasting.{IsLeft}
+use Rattle.unit_step.specs.LastTexts.{IsLeft}
 use Rattle.unit_step.specs.Holding.{HoldsNextIn, wide_after}
 use Rattle.unit_step.specs.Waking.{Wakes}
 use Rattle.unit_step.specs.declared.holding.Holding.{Holding}
 use Rattle.machine_laws.proofs.KeptLemmas.{among_more, stale_told}
 use Rattle.unit_step.proofs.FinishingFits.{same_texts}
-use Rattle.machine_laws.proofs.LastingGroups.{HasLast-order, FitsGraph-last}
+use Rattle.machine_laws.proofs.LastTextsGroups.{HasLast-order, FitsGraph-last}
 use Rattle.unit_step.proofs.HoldingLemmas.{FitsGraph-next, next_woken}
 
 -- what holds of each of some items holds of each of a prefix of them
@@ -135,27 +135,27 @@ keeps_same old mid last wide keeps = record {
 }
 
 -- where the texts of the last build are those of the parts, in order, they are those of the graph's groups
-pub HasLast-settled : (g : GraphData) (old mid new : MachineData) → Rouses g old mid → new ≡ record mid { last = new.last } →
+pub HasLast-settled : (g : GraphData) (old mid new : MachineData) → MakesReady g old mid → new ≡ record mid { last = new.last } →
     AreInOrder new.parts new.uses new.last → HasLast g new.last
-HasLast-settled g old mid new rouses same order =
-    HasLast-order g mid rouses.fits.covers (stale_told g mid rouses.fits) new.last (subst (λ (m : MachineData). AreInOrder m.parts m.uses new.last) same order)
+HasLast-settled g old mid new makes_ready same order =
+    HasLast-order g mid makes_ready.fits.covers (stale_told g mid makes_ready.fits) new.last (subst (λ (m : MachineData). AreInOrder m.parts m.uses new.last) same order)
 
 -- so the machine is finished
-pub Finishes-settled : (g : GraphData) (old mid new : MachineData) → Rouses g old mid → new ≡ record mid { last = new.last } →
+pub Finishes-settled : (g : GraphData) (old mid new : MachineData) → MakesReady g old mid → new ≡ record mid { last = new.last } →
     AreInOrder new.parts new.uses new.last → Finishes g old new
-Finishes-settled g old mid new rouses same order =
+Finishes-settled g old mid new makes_ready same order =
     subst (Finishes g old) (sym same) (record {
-      fits = FitsGraph-last g mid rouses.fits new.last;
-      last = HasLast-settled g old mid new rouses same order;
-      still = keeps_same old mid new.last mid.wide rouses.still;
+      fits = FitsGraph-last g mid makes_ready.fits new.last;
+      last = HasLast-settled g old mid new makes_ready same order;
+      still = keeps_same old mid new.last mid.wide makes_ready.still;
     })
 
 -- a machine that was woken, and whose stale parts are held, as before or anew, fits the graph
-pub Rouses-next : (large : ℕ) (g : GraphData) (old mid new : MachineData) (coded : List ℕ) (holding : Option Holding) → Covers g old → Wakes g coded old mid →
+pub MakesReady-next : (large : ℕ) (g : GraphData) (old mid new : MachineData) (coded : List ℕ) (holding : Option Holding) → Covers g old → Wakes g coded old mid →
     NoneRefused large g → IsRailed g → IsSound old.state → HoldsNextIn large g old coded holding →
-    new ≡ record mid { wide = wide_after large mid.wide holding } → Rouses g old new
-Rouses-next large g old mid new coded holding covers wakes few railed sound next same =
-    subst (Rouses g old) (sym same) (record {
+    new ≡ record mid { wide = wide_after large mid.wide holding } → MakesReady g old new
+MakesReady-next large g old mid new coded holding covers wakes few railed sound next same =
+    subst (MakesReady g old) (sym same) (record {
       fits = FitsGraph-next large g mid wakes.ready few railed (subst IsSound (sym wakes.state) sound) holding
           (next_woken g old mid coded covers wakes large holding next);
       last = wakes.last;

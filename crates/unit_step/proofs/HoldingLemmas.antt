@@ -3,8 +3,8 @@ use Rattle.std.proofs.Common.{◌≡◌, ℕ, ◌<◌, ◌≤◌, inl, inr, List
 use Rattle.std.specs.Prelude.{Contains, slice_index_or, vec_capacity}
 use Rattle.std.proofs.lemmas.List.{get_or-map}
 use Rattle.ternary.specs.declared.tern.Tern.{Tern}
-use Rattle.path_meaning.specs.Graphs.{GraphData, IsStorage}
-use Rattle.path_meaning.specs.Rails.{IsRailed, IsSound}
+use Rattle.switch_paths.specs.Graphs.{GraphData, IsStorage}
+use Rattle.switch_paths.specs.Rails.{IsRailed, IsSound}
 use Rattle.group_meaning.specs.Groups.{Group, id_of}
 use Rattle.group_meaning.proofs.UniqueGroups.{id_member, same_by_member}
 use Rattle.group_meaning.proofs.GroupLemmas.{member_storage}
@@ -15,7 +15,7 @@ use Rattle.wide_groups.specs.Awake.{HoldsWide}
 use Rattle.wide_groups.specs.Holding.{HoldsMembers}
 use Rattle.wide_groups.specs.Moving.{graph_in}
 use Rattle.wide_groups.specs.Staying.{HoldsNode, lowered}
-use Rattle.machine_parts.specs.declared.part.HeldPart.{HeldPart}
+use Rattle.machine_parts.specs.declared.part.MachinePart.{MachinePart}
 use Rattle.machine_parts.specs.Parts.{Stands, IsMemberAt, IsStale}
 use Rattle.machine_parts.proofs.PartLemmas.{same_part}
 use Rattle.machine_laws.specs.Machines.{MachineData}
@@ -37,13 +37,13 @@ none_after large wide None is none = ap (lowered large) is
 none_after large wide (Some holding) is none = absurd (cc none)
 
 -- a stale part has nodes
-pub some_nodes : (parts : List HeldPart) (count : ℕ) → All (HasNodes count) parts → (k : ℕ) → IsStale parts k →
-    0 < length (slice_index_or (map (λ (part : HeldPart). part.map.items) parts) k [])
+pub some_nodes : (parts : List MachinePart) (count : ℕ) → All (HasNodes count) parts → (k : ℕ) → IsStale parts k →
+    0 < length (slice_index_or (map (λ (part : MachinePart). part.map.items) parts) k [])
 some_nodes parts count there k stale =
     let part = stale.part in
     let inside = stale.stands.inside in
     let has = subst (HasNodes count) stale.stands.here (there k part inside) in
-    let is = get_or-map (λ (one : HeldPart). one.map.items) parts k part [] inside ∙ ap (λ (one : HeldPart). one.map.items) stale.stands.here in
+    let is = get_or-map (λ (one : MachinePart). one.map.items) parts k part [] inside ∙ ap (λ (one : MachinePart). one.map.items) stale.stands.here in
     subst (λ (xs : List ℕ). 0 < length xs) (sym is) (omega (arith, stale.some, has.members))
 
 -- of no list a part is one
@@ -51,7 +51,7 @@ not_among : (k : ℕ) → ¬ Contains [] k
 not_among k there = absurd (omega (arith, there.1))
 
 -- a stale part goes on waiting if none gets its code
-goes_on : (parts : List HeldPart) (k : ℕ) → IsStale parts k → GoesOn parts [] k
+goes_on : (parts : List MachinePart) (k : ℕ) → IsStale parts k → GoesOn parts [] k
 goes_on parts k stale = record { stale = stale; other = not_among k }
 
 -- if no part has a group without a text, and each other one has code, nothing is held anew
@@ -98,7 +98,7 @@ module _ (large : ℕ) (g : GraphData) (m : MachineData) (ready : IsReady g m) (
 
 module _ (g : GraphData) (old mid : MachineData) (coded : List ℕ) (covers : Covers g old) (wakes : Wakes g coded old mid) where
   -- a part that waits still has the group that it had
-  same_group : (k : ℕ) (was part : HeldPart) (one group : Group) → Stands old.parts k was → Stands mid.parts k part → IsPartOf g one was → IsPartOf g group part →
+  same_group : (k : ℕ) (was part : MachinePart) (one group : Group) → Stands old.parts k was → Stands mid.parts k part → IsPartOf g one was → IsPartOf g group part →
       one ≡ group
   same_group k was part one group stood stands was_part is_part =
       let node = id_of group in
@@ -161,7 +161,7 @@ module _ (g : GraphData) (old mid : MachineData) (coded : List ℕ) (covers : Co
   stays_next large (Some holding) next = λ wide is inside. absurd (next.new (all_held wide is inside))
     where
       all_held : (wide : WideData) → old.wide ≡ Some wide →
-          ((k : ℕ) (part : HeldPart) → Stands mid.parts k part → 0 < part.members → part.code ≡ None → ¬ IsOutside wide.graph part) →
+          ((k : ℕ) (part : MachinePart) → Stands mid.parts k part → 0 < part.members → part.code ≡ None → ¬ IsOutside wide.graph part) →
           HoldsAll old.parts old.wide coded
       all_held wide is inside k goes =
           let was = goes.stale in

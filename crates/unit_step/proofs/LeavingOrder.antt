@@ -20,14 +20,14 @@ use Rattle.analysis_cache.proofs.DistinctLemmas.{first_texts-filter}
 use Rattle.analysis_cache.proofs.OrderLemmas.{among_all, used-same_left}
 use Rattle.kept_parts.specs.Uses.{UsesData, AreSame, CutsTo, some_texts, texts_used, in_use}
 use Rattle.kept_parts.proofs.PlaceLemmas.{among_at}
-use Rattle.machine_parts.specs.declared.part.HeldPart.{HeldPart}
-use Rattle.unit_step.specs.declared.lasting.Lasting.{Lasting}
+use Rattle.machine_parts.specs.declared.part.MachinePart.{MachinePart}
+use Rattle.unit_step.specs.declared.last_texts.LastTexts.{LastTexts}
 use Rattle.machine_parts.specs.Parts.{Stands, AreApart}
 use Rattle.machine_laws.specs.Beginnings.{Begins, AreInOrder}
-use Rattle.unit_step.specs.Lasting.{AreLasting, AreLeavers, UsesLeavers, IsLeft, is_unused, texts_lasting}
+use Rattle.unit_step.specs.LastTexts.{AreLastTexts, AreLeavers, UsesLeavers, IsLeft, is_unused, texts_of_last}
 use Rattle.unit_step.proofs.FinishingFits.{among_some, some_part}
-use Rattle.unit_step.proofs.LastingLemmas.{BeginsAt-first, Begins-once}
-use Rattle.unit_step.proofs.LastingOrder.{text_at, text_of_part, number_of_text}
+use Rattle.unit_step.proofs.LastTextsLemmas.{BeginsAt-first, Begins-once}
+use Rattle.unit_step.proofs.LastTextsOrder.{text_at, text_of_part, number_of_text}
 
 -- two tests are one where each holds if the other does
 same_test : (a b : Bool) → (a ≡ true → b ≡ true) → (b ≡ true → a ≡ true) → a ≡ b
@@ -67,9 +67,9 @@ module _ (R : ℕ → GroupTextData → Type 0) where
       (text, holds, either (same_text text one) (is_among texts text) among)
 
 -- the texts in order are those that the parts have
-pub AreSame-order : (parts : List HeldPart) (uses : List (Option GroupTextData)) (texts : List GroupTextData) → AreInOrder parts uses texts →
-    AreApart parts → ((k : ℕ) (part : HeldPart) → Stands parts k part → part.members ≤ length part.map.items) →
-    ((k : ℕ) (part : HeldPart) → Stands parts k part → part.members ≡ 0 → slice_index_or uses k None ≡ None) →
+pub AreSame-order : (parts : List MachinePart) (uses : List (Option GroupTextData)) (texts : List GroupTextData) → AreInOrder parts uses texts →
+    AreApart parts → ((k : ℕ) (part : MachinePart) → Stands parts k part → part.members ≤ length part.map.items) →
+    ((k : ℕ) (part : MachinePart) → Stands parts k part → part.members ≡ 0 → slice_index_or uses k None ≡ None) →
     ((k : ℕ) → length parts ≤ k → slice_index_or uses k None ≡ None) → AreSame texts (some_texts uses)
 AreSame-order parts uses texts order apart few textless beyond text =
     same_test (is_among texts text) (is_among (some_texts uses) text)
@@ -80,7 +80,7 @@ AreSame-order parts uses texts order apart few textless beyond text =
     let (k, inside, has) = some_part uses text is in
     in_order k has)
   where
-    with_part : (k : ℕ) → slice_index_or uses k None ≡ Some text → (part : HeldPart) → Stands parts k part → is_among texts text ≡ true
+    with_part : (k : ℕ) → slice_index_or uses k None ≡ Some text → (part : MachinePart) → Stands parts k part → is_among texts text ≡ true
     with_part k has part stands =
         elim (cases_lt 0 part.members) [
           | inl some ↦
@@ -104,7 +104,7 @@ AreSame-order parts uses texts order apart few textless beyond text =
               absurd cc
         ]
       where
-        part_there : (all : List HeldPart) (i : ℕ) → i < length all → (part : HeldPart) × (slice_index_or all i part ≡ part)
+        part_there : (all : List MachinePart) (i : ℕ) → i < length all → (part : MachinePart) × (slice_index_or all i part ≡ part)
         part_there [] i inside = absurd (omega (arith, inside))
         part_there (part ∷ all) zero inside = (part, refl)
         part_there (part ∷ all) (suc i) inside = part_there all i (omega (arith, inside))
@@ -186,12 +186,12 @@ module _ {X : Type 0} (p : X → Bool) where
             ∙ ap (λ one. filter p (cons_option one (filter_map (λ one. one) (map value_at places)))) (sym first)
       ]
 
-module _ (parts : List HeldPart) (uses : UsesData) (count : ℕ) (lasting : Lasting) (are : AreLasting parts uses.numbers count (length uses.known) lasting) where
+module _ (parts : List MachinePart) (uses : UsesData) (count : ℕ) (last_texts : LastTexts) (are : AreLastTexts parts uses.numbers count (length uses.known) last_texts) where
   abbrev numbers : List (Option ℕ)
-  numbers = lasting.numbers.items
+  numbers = last_texts.numbers.items
 
   -- at a node that isn't noted stands nothing that no part has
-  nothing_left : (node : ℕ) → (¬ Contains lasting.changed.items node) → (number : Option ℕ) → slice_index_or numbers node None ≡ number →
+  nothing_left : (node : ℕ) → (¬ Contains last_texts.changed.items node) → (number : Option ℕ) → slice_index_or numbers node None ≡ number →
       (text : Option GroupTextData) → text_at uses.known number ≡ text → collected (is_unused uses) (text ∷ []) ≡ []
   nothing_left node unnoted number number_is None text_is = refl
   nothing_left node unnoted None number_is (Some text) text_is = absurd cc
@@ -201,29 +201,29 @@ module _ (parts : List HeldPart) (uses : UsesData) (count : ℕ) (lasting : Last
       text_of_part uses.known uses.numbers begins.k ∙ (ap (text_at uses.known) begins.has ∙ text_is) in
       rw (among_some (texts_used uses) begins.k text has)
 
-  module _ (leavers : List GroupTextData) (leaves : AreLeavers uses lasting leavers) where
+  module _ (leavers : List GroupTextData) (leaves : AreLeavers uses last_texts leavers) where
     -- so all of the last build that no part has any more stands at noted nodes
-    all_left : leavers ≡ filter (is_unused uses) (texts_lasting uses.known lasting)
+    all_left : leavers ≡ filter (is_unused uses) (texts_of_last uses.known last_texts)
     all_left =
         leaves.are
         ∙ sym (collected-places (is_unused uses) (λ node. text_at uses.known (slice_index_or numbers node None)) 0 (map (text_at uses.known) numbers)
         leaves.places (ascend_from 0 leaves.places leaves.ascending (λ i inside. omega arith))
         (λ node there.
-        omega (arith, All-contains (λ n. n < count) lasting.changed.items node are.within (leaves.only node there), are.counted, length-map numbers (text_at uses.known)))
+        omega (arith, All-contains (λ n. n < count) last_texts.changed.items node are.within (leaves.only node there), are.counted, length-map numbers (text_at uses.known)))
         (λ i inside.
         ap (λ node. text_at uses.known (slice_index_or numbers node None)) (zero-add i) ∙ sym (text_of_part uses.known numbers i))
         (λ i inside absent.
-        let unnoted : ¬ Contains lasting.changed.items i = λ there. absent (subst (Contains leaves.places) (sym (zero-add i)) (leaves.these i there)) in
+        let unnoted : ¬ Contains last_texts.changed.items i = λ there. absent (subst (Contains leaves.places) (sym (zero-add i)) (leaves.these i there)) in
         nothing_left i unnoted (slice_index_or numbers i None) refl (slice_index_or (map (text_at uses.known) numbers) i None)
         (sym (text_of_part uses.known numbers i))))
 
     -- and that is what the present texts, which parts have, leave of it
     pub first-left : (present : List GroupTextData) → AreSame present (some_texts (texts_used uses)) →
-        first_texts leavers ≡ filter (λ text. not (is_among present text)) (first_texts (texts_lasting uses.known lasting))
+        first_texts leavers ≡ filter (λ text. not (is_among present text)) (first_texts (texts_of_last uses.known last_texts))
     first-left present same =
         ap first_texts all_left
-        ∙ (first_texts-filter (is_unused uses) (texts_lasting uses.known lasting)
-        ∙ filter_agree (is_unused uses) (λ text. not (is_among present text)) (λ text. ap not (sym (same text))) (first_texts (texts_lasting uses.known lasting)))
+        ∙ (first_texts-filter (is_unused uses) (texts_of_last uses.known last_texts)
+        ∙ filter_agree (is_unused uses) (λ text. not (is_among present text)) (λ text. ap not (sym (same text))) (first_texts (texts_of_last uses.known last_texts)))
 
 -- a text that some part has is known, so it is in use
 pub AreSame-in_use : (uses : UsesData) → AreSame (in_use uses) (some_texts (texts_used uses))
@@ -250,21 +250,21 @@ in_use-kept uses leavers kept now all used k d inside =
     ∙ either (is_among leavers text) (is_among kept text)
     (among_all (is_among kept) true (some_texts (texts_used uses)) all text (sym (AreSame-in_use uses text) ∙ here)))
 
-module _ (parts : List HeldPart) (uses : UsesData) (count : ℕ) (lasting : Lasting) (are : AreLasting parts uses.numbers count (length uses.known) lasting)
+module _ (parts : List MachinePart) (uses : UsesData) (count : ℕ) (last_texts : LastTexts) (are : AreLastTexts parts uses.numbers count (length uses.known) last_texts)
     (present : List GroupTextData) (same : AreSame present (some_texts (texts_used uses))) (old mid new : KeptData)
-    (leaves : UsesLeavers uses lasting (texts_of old) (texts_of mid)) (bound : mid.bound ≡ old.bound) (cuts : CutsTo (in_use uses) mid new) where
+    (leaves : UsesLeavers uses last_texts (texts_of old) (texts_of mid)) (bound : mid.bound ≡ old.bound) (cuts : CutsTo (in_use uses) mid new) where
   same_in_use : AreSame present (in_use uses)
   same_in_use text = same text ∙ sym (AreSame-in_use uses text)
 
   -- what is kept, with the present texts in front, is what a build leaves of what was kept, with those of the last build in front
-  pub IsLeft-settled : IsLeft old.bound (texts_lasting uses.known lasting) (texts_of old) present (texts_of new)
+  pub IsLeft-settled : IsLeft old.bound (texts_of_last uses.known last_texts) (texts_of old) present (texts_of new)
   IsLeft-settled =
       cuts.kept present same_in_use
       ∙ (ap (λ some. kept_after some present (texts_of mid)) bound
       ∙ ap (within old.bound present)
       (ap (used_texts present) leaves.used
-      ∙ used-same_left (texts_lasting uses.known lasting) leaves.leavers present (texts_of old)
-      (first-left parts uses count lasting are leaves.leavers leaves.are present same)))
+      ∙ used-same_left (texts_of_last uses.known last_texts) leaves.leavers present (texts_of old)
+      (first-left parts uses count last_texts are leaves.leavers leaves.are present same)))
 
   -- and they are kept
   pub present-kept : All (λ text. is_among (texts_of new) text ≡ true) present

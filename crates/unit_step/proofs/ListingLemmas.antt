@@ -2,8 +2,8 @@
 use Rattle.std.proofs.Common.{◌≡◌, ℕ, List, length, Global, Vec, sym, subst}
 use Rattle.std.specs.Prelude.{Option, None, Some, IfSome}
 use Rattle.ternary.specs.declared.tern.Tern.{Tern}
-use Rattle.oscillation_x.specs.Moved.{ListsChanges}
-use Rattle.oscillation_x.proofs.NumbersLemmas.{listed_after}
+use Rattle.settling.specs.Moved.{ListsChanges}
+use Rattle.settling.proofs.NumbersLemmas.{listed_after}
 use Rattle.unit_step.specs.Listing.{nodes_told}
 
 pub told_lists : (changed : Option (Vec ℕ Global)) (nodes : List ℕ) (old new : List Tern) →

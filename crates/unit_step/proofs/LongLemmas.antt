@@ -5,14 +5,14 @@ use Rattle.std.proofs.lemmas.Bool.{cases_eq}
 use Rattle.std.proofs.lemmas.List.{length-set}
 use Rattle.std.proofs.lemmas.List.Elements.{Contains-push, Contains-push_cases, Contains-append_left}
 use Rattle.std.proofs.lemmas.Option.{slice_get_within}
-use Rattle.machine_parts.specs.declared.part.HeldPart.{HeldPart}
+use Rattle.machine_parts.specs.declared.part.MachinePart.{MachinePart}
 use Rattle.part_steps.proofs.PuttingLemmas.{set_here, set_other}
 use Rattle.vicinity.specs.Wides.{WideData}
 use Rattle.wide_groups.specs.Staying.{HoldsNode}
 use Rattle.machine_laws.specs.Finishing.{IsLoosened, Loosens}
 
 -- if no part loses its code, all stay
-pub Loosens-same : (parts : List HeldPart) → Loosens parts parts
+pub Loosens-same : (parts : List MachinePart) → Loosens parts parts
 Loosens-same parts = record {
   count = refl;
   each = λ i was now at_was at_now.
@@ -22,21 +22,21 @@ Loosens-same parts = record {
 }
 
 -- a part that loses its code or stays has its map
-pub same_map : (part now : HeldPart) → (now ≡ part) ⊎ IsLoosened part now → now.map ≡ part.map
+pub same_map : (part now : MachinePart) → (now ≡ part) ⊎ IsLoosened part now → now.map ≡ part.map
 same_map part now then =
     elim then [
-      | inl same ↦ ap (λ (one : HeldPart). one.map) same
+      | inl same ↦ ap (λ (one : MachinePart). one.map) same
       | inr loosened ↦ loosened.map
     ]
 
 -- a part that has lost its code can do so again
-loosened_then : (was mid now : HeldPart) → (mid ≡ was) ⊎ IsLoosened was mid → IsLoosened mid now → IsLoosened was now
+loosened_then : (was mid now : MachinePart) → (mid ≡ was) ⊎ IsLoosened was mid → IsLoosened mid now → IsLoosened was now
 loosened_then was mid now before loosened =
     elim before [
       | inl same ↦ record {
         code = loosened.code;
-        map = loosened.map ∙ ap (λ (part : HeldPart). part.map) same;
-        members = loosened.members ∙ ap (λ (part : HeldPart). part.members) same;
+        map = loosened.map ∙ ap (λ (part : MachinePart). part.map) same;
+        members = loosened.members ∙ ap (λ (part : MachinePart). part.members) same;
         reads = loosened.reads;
       }
       | inr first ↦ record {
@@ -47,15 +47,15 @@ loosened_then was mid now before loosened =
       }
     ]
 
-loosens_then : (was mid now : HeldPart) → (mid ≡ was) ⊎ IsLoosened was mid → (now ≡ mid) ⊎ IsLoosened mid now → (now ≡ was) ⊎ IsLoosened was now
+loosens_then : (was mid now : MachinePart) → (mid ≡ was) ⊎ IsLoosened was mid → (now ≡ mid) ⊎ IsLoosened mid now → (now ≡ was) ⊎ IsLoosened was now
 loosens_then was mid now before then =
     elim then [
       | inr loosened ↦ inr (loosened_then was mid now before loosened)
-      | inl same ↦ subst (λ (one : HeldPart). (one ≡ was) ⊎ IsLoosened was one) (sym same) before
+      | inl same ↦ subst (λ (one : MachinePart). (one ≡ was) ⊎ IsLoosened was one) (sym same) before
     ]
 
 -- so one part more loses its code or stays
-pub Loosens-set : (old mid : List HeldPart) (k : ℕ) (part now : HeldPart) → slice_get mid k ≡ Some part → (now ≡ part) ⊎ IsLoosened part now → Loosens old mid →
+pub Loosens-set : (old mid : List MachinePart) (k : ℕ) (part now : MachinePart) → slice_get mid k ≡ Some part → (now ≡ part) ⊎ IsLoosened part now → Loosens old mid →
     Loosens old (slice_set mid k now)
 Loosens-set old mid k part now at then so_far = record {
   count = length-set mid k now ∙ so_far.count;
@@ -66,18 +66,18 @@ Loosens-set old mid k part now at then so_far = record {
             let both : Some new ≡ Some now = sym at_new ∙ (ap (slice_get (slice_set mid k now)) same ∙ set_here mid k now within) in
             let is : new ≡ now = cc in
             let before = so_far.each i was part at_was (ap (slice_get mid) same ∙ at) in
-            subst (λ (one : HeldPart). (one ≡ was) ⊎ IsLoosened was one) (sym is) (loosens_then was part now before then)
+            subst (λ (one : MachinePart). (one ≡ was) ⊎ IsLoosened was one) (sym is) (loosens_then was part now before then)
         | inr differs ↦ so_far.each i was new at_was (sym (set_other mid k i now differs) ∙ at_new)
       ];
 }
 
 -- of the parts up to a place none has code whose group is stepped by vicinities
-abbrev pub LoosensUpTo : Option WideData → ℕ → List HeldPart → Type 0
+abbrev pub LoosensUpTo : Option WideData → ℕ → List MachinePart → Type 0
 LoosensUpTo wide place parts =
-    (i : ℕ) (part : HeldPart) → i < place → slice_get parts i ≡ Some part → HoldsNode wide (slice_index part.map.items 0) → part.code ≡ None
+    (i : ℕ) (part : MachinePart) → i < place → slice_get parts i ≡ Some part → HoldsNode wide (slice_index part.map.items 0) → part.code ≡ None
 
 -- so it is with the next part
-pub up_to-set : (wide : Option WideData) (place : ℕ) (parts : List HeldPart) (part now : HeldPart) → slice_get parts place ≡ Some part →
+pub up_to-set : (wide : Option WideData) (place : ℕ) (parts : List MachinePart) (part now : MachinePart) → slice_get parts place ≡ Some part →
     (now ≡ part) ⊎ IsLoosened part now → (HoldsNode wide (slice_index part.map.items 0) → now.code ≡ None) → LoosensUpTo wide place parts →
     LoosensUpTo wide (place + 1) (slice_set parts place now)
 up_to-set wide place parts part now at then held so_far i one before at_i holds =
@@ -86,8 +86,8 @@ up_to-set wide place parts part now at then held so_far i one before at_i holds 
           let within = slice_get_within parts place part at in
           let both : Some one ≡ Some now = sym at_i ∙ (ap (slice_get (slice_set parts place now)) same ∙ set_here parts place now within) in
           let is : one ≡ now = cc in
-          let map_is : one.map ≡ part.map = ap (λ (it : HeldPart). it.map) is ∙ same_map part now then in
-          ap (λ (it : HeldPart). it.code) is ∙ held (subst (λ (map : Vec ℕ Global). HoldsNode wide (slice_index map.items 0)) map_is holds)
+          let map_is : one.map ≡ part.map = ap (λ (it : MachinePart). it.map) is ∙ same_map part now then in
+          ap (λ (it : MachinePart). it.code) is ∙ held (subst (λ (map : Vec ℕ Global). HoldsNode wide (slice_index map.items 0)) map_is holds)
       | inr differs ↦ so_far i one (omega (arith, before, differs)) (sym (set_other parts place i now differs) ∙ at_i) holds
     ]
 

@@ -12,9 +12,9 @@ use Rattle.group_analysis.specs.Using.{used_texts, to_front}
 use Rattle.analysis_cache.proofs.UseLemmas.{all_to_front, all_to_front-used, is_among-used}
 use Rattle.analysis_cache.proofs.OrderLemmas.{among_all}
 use Rattle.kept_parts.specs.Uses.{UsesData, some_texts, texts_used}
-use Rattle.unit_step.specs.Lasting.{is_unused, text_in, texts_left, texts_numbered}
-use Rattle.unit_step.proofs.LastingLemmas.{if_some_each}
-use Rattle.unit_step.proofs.LastingOrder.{stands_at, text_at, text_of_part}
+use Rattle.unit_step.specs.LastTexts.{is_unused, text_in, texts_left, texts_numbered}
+use Rattle.unit_step.proofs.LastTextsLemmas.{if_some_each}
+use Rattle.unit_step.proofs.LastTextsOrder.{stands_at, text_at, text_of_part}
 use Rattle.unit_step.proofs.FinishingFits.{among_some}
 use Rattle.unit_step.proofs.LeavingOrder.{either}
 

@@ -4,7 +4,7 @@ use Rattle.std.specs.Prelude.{Contains, not, slice_get}
 use Rattle.std.proofs.lemmas.Bool.{cases_Bool}
 use Rattle.std.proofs.lemmas.List.Elements.{All-nil}
 use Rattle.std.proofs.lemmas.Option.{slice_get_read, slice_get-get_or, get_or_from_slice_get}
-use Rattle.path_meaning.specs.Graphs.{GraphData}
+use Rattle.switch_paths.specs.Graphs.{GraphData}
 use Rattle.group_meaning.specs.Groups.{Group, id_of}
 use Rattle.group_text.specs.Texts.{GroupTextData}
 use Rattle.circuit_texts.specs.declared.sizes.GroupSizes.{GroupSizes}
@@ -13,7 +13,7 @@ use Rattle.circuit_texts.specs.Told.{has_text, with_text, without_text}
 use Rattle.circuit_texts.specs.Choosing.{chosen}
 use Rattle.circuit_texts.specs.Building.{Fills}
 use Rattle.wide_groups.specs.Staying.{HoldsNode}
-use Rattle.machine_parts.specs.declared.part.HeldPart.{HeldPart}
+use Rattle.machine_parts.specs.declared.part.MachinePart.{MachinePart}
 use Rattle.machine_parts.specs.Parts.{Stands}
 use Rattle.machine_laws.specs.Machines.{MachineData, groups_in}
 use Rattle.machine_laws.specs.Fitting.{IsPartOf, Covers, AreTold, IsKeptBy}
@@ -59,7 +59,7 @@ module _ (g : GraphData) (m : MachineData) (covers : Covers g m) (large : ℕ) (
       ]
 
   -- so each part that waits is that of a group that is passed over
-  all_passed : (k : ℕ) (part : HeldPart) (group : Group) → Stands m.parts k part → part.code ≡ None → IsPartOf g group part → IsPassed large m.wide (id_of group)
+  all_passed : (k : ℕ) (part : MachinePart) (group : Group) → Stands m.parts k part → part.code ≡ None → IsPartOf g group part → IsPassed large m.wide (id_of group)
   all_passed k part group stands stale is_part =
       elim (are_due.all k part group stands stale is_part) [
         | inr passed ↦ passed

@@ -2,9 +2,9 @@
 -- After Bryant and Schuster, "Performance Evaluation of FMOSSIM, a Concurrent Switch-Level Fault Simulator", 1985.
 use Rattle.std.specs.Prelude.{◌≡◌, ◌≢◌, ℕ, Bool, List, length, Option}
 use Rattle.ternary.specs.declared.tern.Tern.{Tern}
-use Rattle.path_meaning.specs.Switching.{state_at}
+use Rattle.switch_paths.specs.Switching.{state_at}
 use Rattle.part_words.specs.declared.change.Change.{Change}
-use Rattle.machine_parts.specs.declared.part.HeldPart.{HeldPart}
+use Rattle.machine_parts.specs.declared.part.MachinePart.{MachinePart}
 use Rattle.machine_parts.specs.Marking.{IsMarked}
 use Rattle.machine_parts.specs.Running.{AreOwners}
 use Rattle.machine_parts.specs.Stepping.{Concerns}
@@ -13,7 +13,7 @@ use Rattle.machine_laws.specs.Machines.{MachineData, KeepsBuild, KeepsParts}
 use Rattle.run_beside.specs.Stepping.{MovesBeside, RemarksBeside}
 
 -- every part is apart that a node concerns which differs
-abbrev pub KeepsPartsApart : List HeldPart → List Bool → List Tern → List Tern → Type 0
+abbrev pub KeepsPartsApart : List MachinePart → List Bool → List Tern → List Tern → Type 0
 KeepsPartsApart parts apart good bad = (node : ℕ) → state_at bad node ≢ state_at good node → (k : ℕ) → Concerns parts k node → IsMarked apart k
 
 -- a step, plain or joining, beside a step of the good run that has these changes: nodes move, marks follow, parts come apart, and all else stays

@@ -2,12 +2,12 @@
 -- After Bryant, "A Switch-Level Model and Simulator for MOS Digital Systems", 1984.
 use Rattle.std.specs.Prelude.{ℕ, ◌<◌, ◌≤◌, ◌↔◌, Bool, List, length, All, Contains, Option, None, Some, vec_capacity}
 use Rattle.ternary.specs.declared.tern.Tern.{Tern}
-use Rattle.path_meaning.specs.Graphs.{GraphData}
+use Rattle.switch_paths.specs.Graphs.{GraphData}
 use Rattle.vicinity.specs.NodeSets.{IsIn}
 use Rattle.vicinity.specs.Wides.{WideData}
 use Rattle.wide_groups.specs.Holding.{HoldsMembers}
 use Rattle.wide_groups.specs.Staying.{HoldsNode, HoldsUpTo, lowered}
-use Rattle.machine_parts.specs.declared.part.HeldPart.{HeldPart}
+use Rattle.machine_parts.specs.declared.part.MachinePart.{MachinePart}
 use Rattle.machine_parts.specs.Parts.{HasMember, IsStale}
 use Rattle.machine_laws.specs.Machines.{MachineData}
 use Rattle.machine_laws.specs.Finishing.{first_node}
@@ -24,16 +24,16 @@ room_in None = 0
 room_in (Some holding) = vec_capacity holding.noted
 
 -- the part's nodes are there, and its members are among them
-pub record HasNodes (count : ℕ) (part : HeldPart) : Type 0 where
+pub record HasNodes (count : ℕ) (part : MachinePart) : Type 0 where
   pub below : All (λ node. node < count) part.map.items
   pub members : part.members ≤ length part.map.items
 
 -- the node is a member of one of these parts
-abbrev pub IsOfThese : List HeldPart → List ℕ → ℕ → Type 0
+abbrev pub IsOfThese : List MachinePart → List ℕ → ℕ → Type 0
 IsOfThese parts these node = (k : ℕ) × Contains these k × HasMember parts k node
 
 -- the groups of these parts are held, all awake, and there is room for a change of each node
-pub record HoldsParts (large : ℕ) (g : GraphData) (parts : List HeldPart) (these : List ℕ) (state : List Tern) (holding : Holding) : Type 0 where
+pub record HoldsParts (large : ℕ) (g : GraphData) (parts : List MachinePart) (these : List ℕ) (state : List Tern) (holding : Holding) : Type 0 where
   pub inside : List Bool
   pub members : (node : ℕ) → IsIn inside node ↔ IsOfThese parts these node
   pub holds : HoldsMembers large g state inside holding.wide
@@ -49,23 +49,23 @@ abbrev pub IsPassed : ℕ → Option WideData → ℕ → Type 0
 IsPassed large wide node = HoldsUpTo large wide × HoldsNode wide node
 
 -- the part with this number is stale, and goes on waiting if these get their codes
-pub record GoesOn (parts : List HeldPart) (coded : List ℕ) (k : ℕ) : Type 0 where
+pub record GoesOn (parts : List MachinePart) (coded : List ℕ) (k : ℕ) : Type 0 where
   pub stale : IsStale parts k
   pub other : ¬ Contains coded k
 
 -- each of them is that of a group that is held already
-abbrev pub HoldsAll : List HeldPart → Option WideData → List ℕ → Type 0
+abbrev pub HoldsAll : List MachinePart → Option WideData → List ℕ → Type 0
 HoldsAll parts wide coded = (k : ℕ) → GoesOn parts coded k → HoldsNode wide (first_node parts k)
 
 -- some of them isn't yet, and all are held anew
-pub record HoldsAnew (large : ℕ) (g : GraphData) (parts : List HeldPart) (wide : Option WideData) (state : List Tern) (coded : List ℕ) (holding : Holding) : Type 0 where
+pub record HoldsAnew (large : ℕ) (g : GraphData) (parts : List MachinePart) (wide : Option WideData) (state : List Tern) (coded : List ℕ) (holding : Holding) : Type 0 where
   pub new : ¬ HoldsAll parts wide coded
   pub these : List ℕ
   pub are : (k : ℕ) → Contains these k ↔ GoesOn parts coded k
   pub holds : HoldsParts large g parts these state holding
 
 -- all are held as before, or anew
-abbrev pub HoldsNext : ℕ → GraphData → List HeldPart → Option WideData → List Tern → List ℕ → Option Holding → Type 0
+abbrev pub HoldsNext : ℕ → GraphData → List MachinePart → Option WideData → List Tern → List ℕ → Option Holding → Type 0
 HoldsNext large g parts wide state coded None = HoldsAll parts wide coded
 HoldsNext large g parts wide state coded (Some holding) = HoldsAnew large g parts wide state coded holding
 

@@ -1,5 +1,5 @@
 pub mod Planning
-pub mod Lasting
+pub mod LastTexts
 pub mod Bodies
 pub mod Waking
 pub mod Listing

@@ -1,7 +1,7 @@
 -- The nodes at which a step may have changed the state, as an observer is told.
 use Rattle.std.specs.Prelude.{ℕ, List, Option, None, Some}
 use Rattle.std.proofs.Common.{Global, Vec}
-use Rattle.oscillation_x.specs.PlainStepping.{numbers_from}
+use Rattle.settling.specs.PlainStepping.{numbers_from}
 
 -- those that are listed, and if there is no list all
 abbrev pub nodes_told : Option (Vec ℕ Global) → ℕ → List ℕ

@@ -2,7 +2,7 @@
 use Rattle.std.specs.Prelude.{◌≡◌, ℕ, List, map, All, None, Some}
 use Rattle.std.specs.List.{AllZip}
 use Rattle.ternary.specs.declared.tern.Tern.{Tern}
-use Rattle.path_meaning.specs.Graphs.{GraphData}
+use Rattle.switch_paths.specs.Graphs.{GraphData}
 use Rattle.channel_groups.specs.Grouping.{AreOf, IsId}
 use Rattle.group_text.specs.Texts.{local_nodes}
 use Rattle.group_text.specs.FirstTexts.{first_texts}

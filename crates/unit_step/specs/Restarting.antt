@@ -1,8 +1,8 @@
 -- A machine that starts again in another state.
 use Rattle.std.specs.Prelude.{◌≡◌, ◌≢◌, ℕ, ◌<◌, Bool, List, length}
 use Rattle.ternary.specs.declared.tern.Tern.{Tern}
-use Rattle.path_meaning.specs.Switching.{state_at}
-use Rattle.path_meaning.specs.Graphs.{GraphData}
+use Rattle.switch_paths.specs.Switching.{state_at}
+use Rattle.switch_paths.specs.Graphs.{GraphData}
 use Rattle.machine_parts.specs.Marking.{IsMarked}
 use Rattle.machine_laws.specs.Machines.{MachineData, KeepsBuild, KeepsParts}
 use Rattle.machine_laws.specs.Fitting.{Covers, FitsGraph}

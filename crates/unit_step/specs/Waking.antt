@@ -1,7 +1,7 @@
 -- What is found of the parts that wait before they get their codes.
 use Rattle.std.specs.Prelude.{◌≡◌, ℕ, ◌<◌, ◌⊎◌, ◌↔◌, Bool, true, List, [], ◌∷◌, ◌++◌, length, map, filter, All, Contains, Option, None}
 use Rattle.std.specs.List.{AllZip}
-use Rattle.path_meaning.specs.Graphs.{GraphData, nodes}
+use Rattle.switch_paths.specs.Graphs.{GraphData, nodes}
 use Rattle.group_meaning.specs.Groups.{Group, AreGroups, id_of}
 use Rattle.group_text.specs.Texts.{text_of_group, local_nodes}
 use Rattle.circuit_texts.specs.declared.sizes.GroupSizes.{GroupSizes}
@@ -12,7 +12,7 @@ use Rattle.circuit_texts.specs.Told.{with_text, without_text}
 use Rattle.circuit_texts.specs.Reading.{AreReads}
 use Rattle.kept_parts.specs.Uses.{count_distinct}
 use Rattle.vicinity.specs.Wides.{WideData}
-use Rattle.machine_parts.specs.declared.part.HeldPart.{HeldPart}
+use Rattle.machine_parts.specs.declared.part.MachinePart.{MachinePart}
 use Rattle.machine_parts.specs.Parts.{Stands, HasMember, IsStale}
 use Rattle.machine_parts.specs.Making.{IsFormed}
 use Rattle.unit_step.specs.declared.waking.Waking.{Waking}
@@ -37,12 +37,12 @@ pub record AreDue (g : GraphData) (m : MachineData) (large : ℕ) (sizes : Group
   pub without : chosen (groups_in m.groups) sizes.large.items ≡ without_text (filter due (groups_in m.groups))
   pub told_ids : All (λ id. IsId (groups_in m.groups) id.node) sizes.told.items
   pub slot : (group : Group) → Contains (groups_in m.groups) group → due group ≡ true → (k : ℕ) × IsSlotOf g m.parts group k
-  pub all : (k : ℕ) (part : HeldPart) (group : Group) → Stands m.parts k part → part.code ≡ None → IsPartOf g group part →
+  pub all : (k : ℕ) (part : MachinePart) (group : Group) → Stands m.parts k part → part.code ≡ None → IsPartOf g group part →
       (due group ≡ true) ⊎ IsPassed large m.wide (id_of group)
   pub texts : m.texts ≡ count_distinct m.uses
 
 -- the parts that are made for the groups that wait, in these slots
-pub record AreMade (g : GraphData) (some : List Group) (slots : List ℕ) (old fresh : List HeldPart) (count : ℕ) : Type 0 where
+pub record AreMade (g : GraphData) (some : List Group) (slots : List ℕ) (old fresh : List MachinePart) (count : ℕ) : Type 0 where
   pub fresh_are : AllZip (IsFresh g) some fresh
   pub formed : All (IsFormed count) fresh
   pub below : All (λ part. All (λ node. node < count) part.reads.items) fresh

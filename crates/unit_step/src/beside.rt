@@ -1,16 +1,16 @@
 //! A step of a machine beside a good run's.
 ghost use Rattle.std.specs.Prelude.{◌≡◌, ◌≢◌, ◌↔◌, ◌⊎◌, ℕ, ◌<◌, ◌≤◌, [], Some, true, length, take, Contains};
 ghost use Rattle.std.specs.Bool.{OnTrue, OnFalse};
-ghost use Rattle.path_meaning.specs.Switching.{state_at};
+ghost use Rattle.switch_paths.specs.Switching.{state_at};
 ghost use Rattle.part_words.specs.declared.change.Change.{Change};
 ghost use Rattle.machine_parts.specs.Words.{AreAgreed, HasMember, IsMarked, IsTaken, ReadsAt, Stands, instructions_of, marked_sum};
 ghost use Rattle.machine_parts.specs.Stepping.{Concerns};
-ghost use Rattle.machine_parts.specs.declared.part.HeldPart.{HeldPart};
+ghost use Rattle.machine_parts.specs.declared.part.MachinePart.{MachinePart};
 ghost use Rattle.wide_groups.specs.Awake.{IsWorked};
 ghost use Rattle.unit_step.specs.Beside.{AdvancesBeside, KeepsPartsApart};
 
 use crate::machine::Machine;
-use machine_parts::HeldPart;
+use machine_parts::MachinePart;
 use part_words::Change;
 use run_beside::advance_beside;
 use std::sync::ledger::Ledger;
@@ -58,7 +58,7 @@ impl Machine {
             &mut self.body.state,
             apart,
             &mut self.body.agenda,
-            &mut self.body.desk,
+            &mut self.body.workspace,
             &mut self.body.wide,
             &mut self.body.noted,
             steps,
@@ -100,9 +100,9 @@ impl Machine {
 }
 
 // Whether no node that concerns a part differs.
-fn agrees_in(parts: &[HeldPart], k: usize, good: &[Tern], bad: &[Tern]) -> bool
+fn agrees_in(parts: &[MachinePart], k: usize, good: &[Tern], bad: &[Tern]) -> bool
     requires part { k < length parts.now }
-    requires seated { (part : HeldPart) → Stands parts.now k part → part.members ≤ length part.map.items }
+    requires seated { (part : MachinePart) → Stands parts.now k part → part.members ≤ length part.map.items }
     requires inside { (node : ℕ) → Concerns parts.now k node → node < length bad.now }
     requires counted { length good.now ≡ length bad.now }
     ensures { OnTrue result ((node : ℕ) → Concerns parts.now k node → state_at bad.now node ≡ state_at good.now node) }
@@ -111,7 +111,7 @@ fn agrees_in(parts: &[HeldPart], k: usize, good: &[Tern], bad: &[Tern]) -> bool
 }
 
 // Whether a part's members and what it reads have the same states in both runs.
-fn agrees(part: &HeldPart, good: &[Tern], bad: &[Tern]) -> bool
+fn agrees(part: &MachinePart, good: &[Tern], bad: &[Tern]) -> bool
     requires members { part.now.members ≤ length part.now.map.items }
     requires inside { (node : ℕ) → Contains (take part.now.members part.now.map.items) node → node < length bad.now }
     requires reads { (node : ℕ) → Contains part.now.reads.items node → node < length bad.now }

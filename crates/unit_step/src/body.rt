@@ -1,32 +1,33 @@
 //! What a machine is made of.
 ghost use Rattle.std.specs.Prelude.{◌≡◌, ℕ, ◌<◌, ◌↔◌, true, length, replicate, All, Contains, IsTrue, IfOk};
-ghost use Rattle.path_meaning.specs.Words.{nodes, IsRailed, IsSound};
+ghost use Rattle.switch_paths.specs.Words.{nodes, IsRailed, IsSound};
 ghost use Rattle.analysis_cache.specs.Keeping.{texts_of};
 ghost use Rattle.group_text.specs.FirstTexts.{is_among};
 ghost use Rattle.kept_parts.specs.Uses.{texts_used};
 ghost use Rattle.machine_parts.specs.Words.{AreApart, IsFormed, IsMarked, IsStale};
 ghost use Rattle.unit_step.specs.Planning.{IsPlan};
 ghost use Rattle.machine_laws.specs.Words.{IsReady, AreInOrder, AreUntold, HasLast};
-ghost use Rattle.unit_step.specs.Lasting.{texts_lasting};
+ghost use Rattle.unit_step.specs.LastTexts.{texts_of_last};
 ghost use Rattle.unit_step.specs.Holding.{HasNodes, HoldsNext};
 ghost use Rattle.unit_step.specs.Bodies.{CanStart, IsCodedAt, of_body};
 ghost use Rattle.part_steps.specs.Dense.{AreDense, HasInputs, HaveCodes};
 
 use crate::holding::{Holding, holding_of, holds_all, others_waiting};
-use crate::lasting::Lasting;
+use crate::last_texts::LastTexts;
 use crate::long::{Codes, add_if, loosen_new};
 use crate::planning::Plan;
 use crate::seating::add_stale;
 use analysis_cache::Kept;
 use channel_groups::Groups;
 use kept_parts::{TextUses, parts_by_number};
-use machine_parts::HeldPart;
+use machine_parts::MachinePart;
 use part_steps::{
-    Agenda, DenseParts, Desk, ReaderLists, all_owners, count_held, desk_for, held_parts,
+    Agenda, DenseParts, ReaderLists, Workspace, all_owners, count_held, parts_with_reads,
+    workspace_for,
 };
 use part_words::Change;
-use path_meaning::{Graph, graphs_are_wired};
 use std::alloc::{AllocError, Global};
+use switch_paths::{Graph, graphs_are_wired};
 use ternary::{NoMemory, Tern};
 use vicinity::Wide;
 
@@ -36,13 +37,13 @@ use vicinity::Wide;
 pub(crate) struct Body {
     // the groups of the graph that the machine was built for
     pub(crate) groups: Option<Groups>,
-    pub(crate) parts: Vec<HeldPart>,
+    pub(crate) parts: Vec<MachinePart>,
     // what a step reads of the parts
     pub(crate) dense: DenseParts,
     // the text of each part whose group has one, once it was found
     pub(crate) uses: TextUses,
     // the texts of the last build
-    pub(crate) lasting: Lasting,
+    pub(crate) last_texts: LastTexts,
     // how many parts have a member
     pub(crate) held: usize,
     // at least as many as all parts have members
@@ -52,7 +53,7 @@ pub(crate) struct Body {
     pub(crate) readers: ReaderLists,
     pub(crate) owners: Vec<Option<usize>>,
     pub(crate) state: Vec<Tern>,
-    pub(crate) desk: Desk,
+    pub(crate) workspace: Workspace,
     // the groups that are stepped by vicinities, if they are known, and room for a change of each node
     pub(crate) wide: Option<Wide>,
     pub(crate) noted: Vec<Change>,
@@ -75,7 +76,7 @@ impl Body {
         ensures starts { IfOk result CanStart }
         ensures begins { IfOk result (λ body. (spare : ℕ) → IsReady graph.now (of_body body spare)) }
         ensures all { codes ≡ Codes.All → IfOk result (λ body. AreUntold graph.now body.parts.items) }
-        ensures last { IfOk result (λ body. HasLast graph.now (texts_lasting body.uses.known body.lasting)) }
+        ensures last { IfOk result (λ body. HasLast graph.now (texts_of_last body.uses.known body.last_texts)) }
         ensures state { IfOk result (λ body. body.state ≡ plan.state) }
         ensures known { IfOk result (λ body. body.uses.known ≡ plan.uses.known) }
     {
@@ -90,7 +91,7 @@ impl Body {
         } = plan;
         let mut uses = uses;
         let parts = parts_by_number(alloc, kept, &uses, maps)?;
-        let mut held = held_parts(alloc, parts, reads)?;
+        let mut held = parts_with_reads(alloc, parts, reads)?;
         loosen_new(alloc, codes, &uses, &mut held);
         add_stale(alloc, graph, &groups, &large, &mut held, &mut uses)?;
         Body::of_parts(alloc, Some(groups), held, state, uses)
@@ -100,7 +101,7 @@ impl Body {
     pub(crate) fn of_parts(
         alloc: Global,
         groups: Option<Groups>,
-        parts: Vec<HeldPart>,
+        parts: Vec<MachinePart>,
         state: Vec<Tern>,
         uses: TextUses,
     ) -> Result<Body, NoMemory>
@@ -115,29 +116,29 @@ impl Body {
         ensures parts { IfOk result (λ body. body.parts ≡ parts) }
         ensures state { IfOk result (λ body. body.state ≡ state) }
         ensures uses { IfOk result (λ body. body.uses ≡ uses) }
-        ensures order { IfOk result (λ body. AreInOrder parts.items (texts_used uses) (texts_lasting uses.known body.lasting)) }
+        ensures order { IfOk result (λ body. AreInOrder parts.items (texts_used uses) (texts_of_last uses.known body.last_texts)) }
     {
         let nodes = state.len();
         let held = count_held(&parts);
         let agenda = agenda_of(alloc, &parts)?;
         let readers = ReaderLists::of_parts(alloc, &parts, nodes)?;
         let owners = all_owners(alloc, &parts, nodes)?;
-        let desk = desk_for(alloc, &parts)?;
+        let workspace = workspace_for(alloc, &parts)?;
         let dense = dense_of(alloc, &parts, &uses)?;
-        let lasting = Lasting::of_parts(alloc, &parts, &uses, nodes)?;
+        let last_texts = LastTexts::of_parts(alloc, &parts, &uses, nodes)?;
         Ok(Body {
             groups,
             parts,
             dense,
             uses,
-            lasting,
+            last_texts,
             held,
-            most: desk.changes.capacity(),
+            most: workspace.changes.capacity(),
             agenda,
             readers,
             owners,
             state,
-            desk,
+            workspace,
             wide: None,
             noted: Vec::new(alloc),
         })
@@ -168,19 +169,19 @@ impl Body {
 }
 
 // All of these parts are marked, and those without code wait.
-fn agenda_of(alloc: Global, parts: &[HeldPart]) -> Result<Agenda, AllocError>
+fn agenda_of(alloc: Global, parts: &[MachinePart]) -> Result<Agenda, AllocError>
     requires some { All (λ part. 0 < part.members) parts.now }
     ensures marks { IfOk result (λ agenda. agenda.marks ≡ replicate (length parts.now) true) }
     ensures waiting { IfOk result (λ agenda. (k : ℕ) → IsMarked agenda.waiting k ↔ IsStale parts.now k) }
 {
     let coded = parts_with_code(alloc, parts)?;
     let mut agenda = Agenda::with_stale(alloc, 0, parts.len())?;
-    agenda.rouse(&coded);
+    agenda.make_ready(&coded);
     Ok(agenda)
 }
 
 // The numbers of the parts that have code.
-fn parts_with_code(alloc: Global, parts: &[HeldPart]) -> Result<Vec<usize>, AllocError>
+fn parts_with_code(alloc: Global, parts: &[MachinePart]) -> Result<Vec<usize>, AllocError>
     ensures { IfOk result (λ coded. (k : ℕ) → Contains coded.items k ↔ IsCodedAt parts.now k) }
 {
     let mut coded = Vec::new(alloc);
@@ -193,7 +194,7 @@ fn parts_with_code(alloc: Global, parts: &[HeldPart]) -> Result<Vec<usize>, Allo
 // What a step reads of these parts; those whose texts have one number share their code. More codes or nodes than
 // a number of 32 bits can count are refused as lack of memory.
 #[tactic(auto, using(part_steps::proofs::DenseLemmas::no_seats, part_steps::proofs::DenseLemmas::places_none))]
-fn dense_of(alloc: Global, parts: &[HeldPart], uses: &TextUses) -> Result<DenseParts, NoMemory>
+fn dense_of(alloc: Global, parts: &[MachinePart], uses: &TextUses) -> Result<DenseParts, NoMemory>
     requires inputs { All HasInputs parts.now }
     requires numbered { length uses.now.numbers ≡ length parts.now }
     requires coded { HaveCodes uses.now.numbers parts.now }

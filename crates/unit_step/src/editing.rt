@@ -1,6 +1,6 @@
 //! Edits of the graph under a machine.
 ghost use Rattle.std.specs.Prelude.{◌≡◌, ℕ, ◌+◌, ◌*◌, ◌≤◌, ◌<◌, ◌-◌, ◌++◌, ◌↔◌, List, length, option_map, find, Contains, IfOk, IfErr, OnOk, OnErr};
-ghost use Rattle.path_meaning.specs.Graphs.{nodes, IsWired};
+ghost use Rattle.switch_paths.specs.Graphs.{nodes, IsWired};
 ghost use Rattle.group_meaning.specs.Groups.{Group, AreGroups};
 ghost use Rattle.channel_groups.specs.Grouping.{AreOf, has_member};
 ghost use Rattle.channel_groups.specs.Changes.{undo, touched_size};
@@ -11,10 +11,10 @@ ghost use Rattle.machine_parts.specs.Words.{IsMarked, HasMember, AreApart, IsSta
 use crate::machine::Machine;
 use crate::seating::owner_of;
 use channel_groups::{Change, Group, Groups, nodes_after, nodes_before};
-use path_meaning::{Graph, graphs_are_wired};
 use std::alloc::{AllocError, Global};
 use std::mem;
 use std::sync::ledger::Ledger;
+use switch_paths::{Graph, graphs_are_wired};
 use ternary::{NoMemory, Steps};
 
 /// The most nodes that one edit makes: the gate, the source and the drain of a transistor.

@@ -1,29 +1,29 @@
 //! The codes of the parts that an edit made stale.
 ghost use Rattle.std.specs.Prelude.{◌≡◌, ℕ, ◌⊎◌, None, length, All, IsTrue, Err, IfOk, IfErr, OnOk, OnErr, slice_index_or};
-ghost use Rattle.path_meaning.specs.Graphs.{nodes};
-ghost use Rattle.path_meaning.specs.Rails.{IsRailed, IsSound};
+ghost use Rattle.switch_paths.specs.Graphs.{nodes};
+ghost use Rattle.switch_paths.specs.Rails.{IsRailed, IsSound};
 ghost use Rattle.group_text.specs.FirstTexts.{is_among};
 ghost use Rattle.analysis_cache.specs.Words.{texts_of, IsGrown, HoldsKept, HoldsNearlyKept};
 ghost use Rattle.circuit_texts.specs.Words.{NoneRefused, TellsRefused, Builds, Fills, IsCutOff};
 ghost use Rattle.group_analysis.specs.Using.{used_texts};
 ghost use Rattle.kept_parts.specs.Uses.{some_texts};
-ghost use Rattle.machine_parts.specs.declared.part.HeldPart.{HeldPart};
+ghost use Rattle.machine_parts.specs.declared.part.MachinePart.{MachinePart};
 ghost use Rattle.machine_parts.specs.Parts.{Stands};
-ghost use Rattle.machine_laws.specs.Words.{Covers, IsKeptBy, Finishes, Rouses, StaysKnown, AreInOrder};
-ghost use Rattle.unit_step.specs.Lasting.{IsLeft};
+ghost use Rattle.machine_laws.specs.Words.{Covers, IsKeptBy, Finishes, MakesReady, StaysKnown, AreInOrder};
+ghost use Rattle.unit_step.specs.LastTexts.{IsLeft};
 ghost use Rattle.unit_step.specs.Holding.{HoldsNextIn};
 ghost use Rattle.unit_step.specs.Waking.{AreDue, IsWaking, IsRisen, Wakes};
 
 use crate::holding::Holding;
 use crate::long::{coded_of, long_texts, loosen_waking};
 use crate::machine::Machine;
-use crate::rousing::{numbers_of, put_texts};
+use crate::making_ready::{numbers_of, put_texts};
 use crate::waking::{Risen, Waking, has_no_group, ids_at, least_members, owners_of};
 use analysis_cache::{Analyst, Kept};
 use circuit_texts::{BuildFault, GroupSizes, GroupTexts, reads_at, sizes_at, texts_at};
 use kept_parts::parts_of;
-use part_steps::{held_parts, needs_of, put_in, widen_for_codes};
-use path_meaning::{Graph, graphs_are_wired};
+use part_steps::{needs_of, parts_with_reads, put_in, widen_for_codes};
+use switch_paths::{Graph, graphs_are_wired};
 use ternary::NoMemory;
 
 impl Machine {
@@ -88,7 +88,7 @@ impl Machine {
         requires railed { IsRailed graph.now }
         requires sound { IsSound self.old.state }
         requires known { IsKeptBy graph.now (texts_of kept.old) self.old }
-        ensures rouses { OnOk result (Rouses graph.now self.old self.new) }
+        ensures makes_ready { OnOk result (MakesReady graph.now self.old self.new) }
         ensures stays { OnOk result (StaysKnown large self.old self.new) }
         ensures fills { IfOk result (Fills large graph.now (texts_of kept.old) (texts_of kept.new) (A.analysed analyst.old) (A.analysed analyst.new)) }
         ensures bound { kept.new.bound ≡ kept.old.bound }
@@ -109,7 +109,7 @@ impl Machine {
         let fresh = kept.fill(&waking.texts, analyst)?;
         let risen = self.risen(graph, waking, kept)?;
         let holding = self.holding(graph, large, &risen.coded)?;
-        self.rouse(graph, risen)?;
+        self.make_ready(graph, risen)?;
         self.hold(large, holding);
         Ok(fresh)
     }
@@ -154,7 +154,8 @@ impl Machine {
     // The texts that the parts have now are those of the last build from now on: those that are gone are used,
     // in order, and what is past the bound is cut, but no text that a part has.
     fn settle_last<A: Analyst>(&mut self, kept: &mut Kept, analyst: &mut A)
-        requires textless { (k : ℕ) (part : HeldPart) → Stands self.old.parts k part → part.members ≡ 0 → slice_index_or self.old.uses k None ≡ None }
+        requires textless { (k : ℕ) (part : MachinePart) → Stands self.old.parts k part → part.members ≡ 0
+            → slice_index_or self.old.uses k None ≡ None }
         requires last { All (λ text. IsTrue (is_among (texts_of kept.old) text)) self.old.last }
         requires used { All (λ text. IsTrue (is_among (texts_of kept.old) text)) (some_texts self.old.uses) }
         ensures same { self.new ≡ record self.old { last = self.new.last } }
@@ -166,11 +167,11 @@ impl Machine {
         ensures holds { HoldsKept kept.old (A.held analyst.old) → HoldsKept kept.new (A.held analyst.new) }
     {
         self.body
-            .lasting
+            .last_texts
             .use_leavers(&self.body.parts, &self.body.uses, kept);
         self.body.uses.cut_past_bound(kept, analyst);
         self.body
-            .lasting
+            .last_texts
             .renew(&self.body.parts, &self.body.uses, &self.body.owners);
     }
 
@@ -213,7 +214,7 @@ impl Machine {
             maps,
             reads,
         } = waking;
-        let mut parts = held_parts(alloc, parts_of(alloc, kept, &texts, maps)?, reads)?;
+        let mut parts = parts_with_reads(alloc, parts_of(alloc, kept, &texts, maps)?, reads)?;
         let (wide, uses) = (&self.body.wide, &self.body.uses);
         let fresh = long_texts(alloc, kept.keys(), uses, &slots, &texts, &parts)?;
         loosen_waking(alloc, wide, uses, &fresh, &texts, &mut parts);
@@ -228,7 +229,7 @@ impl Machine {
 
     // Puts these parts in their slots. Those of them that have no code go on waiting.
     #[inline(never)]
-    fn rouse(&mut self, graph: &Graph, risen: Risen) -> Result<(), NoMemory>
+    fn make_ready(&mut self, graph: &Graph, risen: Risen) -> Result<(), NoMemory>
         requires covers { Covers graph.now self.old }
         requires risen { IsRisen graph.now self.old risen }
         ensures wakes { OnOk result (Wakes graph.now risen.coded.items self.old self.new) }
@@ -245,16 +246,16 @@ impl Machine {
             return Err(NoMemory);
         };
         let numbers = numbers_of(alloc, &texts, &mut self.body.uses)?;
-        widen_for_codes(&mut self.body.desk, needs.values)?;
+        widen_for_codes(&mut self.body.workspace, needs.values)?;
         let seats = self.body.dense.seats_for(alloc, &parts)?;
-        self.body.lasting.note_all(&slots, &self.body.parts)?;
+        self.body.last_texts.note_all(&slots, &self.body.parts)?;
         self.body
             .readers
             .list_all(&slots, &parts, &self.body.parts)?;
         put_texts(&slots, &numbers, &mut self.body.uses);
         self.body.dense.put_all(&slots, seats);
         put_in(&slots, parts, &mut self.body.parts);
-        self.body.agenda.rouse(&coded);
+        self.body.agenda.make_ready(&coded);
         Ok(())
     }
 }

@@ -22,11 +22,11 @@ impl Machine {
         let wide = widened(known, nodes, &mut self.body.noted)?;
         let more = nodes.saturating_sub(self.body.state.len());
         self.body.owners.reserve(more)?;
-        self.body.lasting.numbers.reserve(more)?;
+        self.body.last_texts.numbers.reserve(more)?;
         self.body.readers.grow(nodes)?;
         grow(&mut self.body.state, nodes);
         grow_by(&mut self.body.owners, nodes, None);
-        grow_by(&mut self.body.lasting.numbers, nodes, None);
+        grow_by(&mut self.body.last_texts.numbers, nodes, None);
         self.body.wide = wide;
         Ok(())
     }

@@ -2,7 +2,7 @@
 ghost use Rattle.std.specs.Prelude.{◌≡◌, ℕ, ◌<◌, ◌≤◌, ◌↔◌, true, [], length, take, map, vec_capacity, All, Contains, IfOk, IfSome, slice_index_or};
 ghost use Rattle.std.specs.Bool.{OnTrue, OnFalse};
 ghost use Rattle.std.specs.List.Sorted.{IsNonDecreasing};
-ghost use Rattle.path_meaning.specs.Graphs.{nodes};
+ghost use Rattle.switch_paths.specs.Graphs.{nodes};
 ghost use Rattle.machine_parts.specs.Words.{IsMarked, MarksAll};
 ghost use Rattle.vicinity.specs.NodeSets.{IsIn};
 ghost use Rattle.wide_groups.specs.Awake.{HoldsWide};
@@ -14,11 +14,11 @@ ghost use Rattle.unit_step.specs.Holding.{HasNodes, HoldsParts, IsOfThese, wide_
 use crate::long::add_if;
 use crate::machine::Machine;
 use crate::waking::least_member;
-use machine_parts::HeldPart;
+use machine_parts::MachinePart;
 use part_steps::Agenda;
 use part_words::Change;
-use path_meaning::Graph;
 use std::alloc::{AllocError, Global};
+use switch_paths::Graph;
 use ternary::{NoMemory, Tern};
 use vicinity::{NodeSet, Wide};
 use wide_groups::{grown, holds_node, lower, wide_of};
@@ -72,7 +72,7 @@ pub(crate) fn widened(
 pub(crate) fn holding_of(
     alloc: Global,
     graph: &Graph,
-    parts: &[HeldPart],
+    parts: &[MachinePart],
     these: &[usize],
     large: usize,
     state: &[Tern],
@@ -92,7 +92,7 @@ pub(crate) fn holding_of(
 fn member_set(
     alloc: Global,
     nodes: usize,
-    parts: &[HeldPart],
+    parts: &[MachinePart],
     these: &[usize],
 ) -> Result<NodeSet, AllocError>
     requires these { All (λ k. k < length parts.now) these.now }
@@ -108,7 +108,7 @@ fn member_set(
 }
 
 // Puts the members of a part in.
-fn put_members(part: &HeldPart, set: &mut NodeSet)
+fn put_members(part: &MachinePart, set: &mut NodeSet)
     requires members { part.now.members ≤ length part.now.map.items }
     requires inside { (node : ℕ) → Contains (take part.now.members part.now.map.items) node → node < length set.old.inside }
     ensures { MarksAll (Contains (take part.now.members part.now.map.items)) set.old.inside set.new.inside }
@@ -127,7 +127,7 @@ fn put_all(nodes: &[usize], set: &mut NodeSet)
 }
 
 // Whether each of these parts is stepped by vicinities already.
-pub(crate) fn holds_all(wide: &Option<Wide>, parts: &[HeldPart], these: &[usize]) -> bool
+pub(crate) fn holds_all(wide: &Option<Wide>, parts: &[MachinePart], these: &[usize]) -> bool
     requires these { All (λ k. k < length parts.now) these.now }
     requires some { All (λ k. 0 < length (slice_index_or (map (λ part. part.map.items) parts.now) k [])) these.now }
     ensures all { OnTrue result (All (λ k. HoldsNode wide.now (first_node parts.now k)) these.now) }

@@ -29,14 +29,14 @@ mod editing;
 mod finishing;
 mod growing;
 mod holding;
-mod lasting;
+mod last_texts;
 mod laws;
 mod listing;
 mod long;
 mod machine;
+mod making_ready;
 mod planning;
 mod restarting;
-mod rousing;
 mod seating;
 mod waking;
 mod watching;
@@ -50,6 +50,6 @@ pub use machine_laws::{
     alike_groups_keep_their_parts, columns_step_apart, empty_places_are_covered,
     machines_have_kept_texts, placing_keeps_fits, steps_are_unit_steps,
 };
-pub use machine_parts::HeldPart;
+pub use machine_parts::MachinePart;
 pub use part_steps::{Needs, needs_of, numbers_below};
 pub use watching::Watched;

@@ -1,6 +1,6 @@
 //! The list of the nodes that a step changed, for who looks.
 ghost use Rattle.std.specs.Prelude.{◌≡◌, ◌++◌, None, IfSome, OnOk};
-ghost use Rattle.part_steps.specs.Desks.{nodes_noted};
+ghost use Rattle.part_steps.specs.Workspaces.{nodes_noted};
 
 use part_words::Change;
 use std::alloc::AllocError;

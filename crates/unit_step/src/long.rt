@@ -5,7 +5,7 @@ ghost use Rattle.wide_groups.specs.Staying.{HoldsNode};
 
 use group_text::GroupText;
 use kept_parts::TextUses;
-use machine_parts::HeldPart;
+use machine_parts::MachinePart;
 use std::alloc::{AllocError, Global};
 use table_keys::TableKeys;
 use ternary::NoMemory;
@@ -28,7 +28,7 @@ pub enum Codes {
 }
 
 // Whether the code of a part is long for its group.
-fn is_long(part: &HeldPart) -> bool {
+fn is_long(part: &MachinePart) -> bool {
     match &part.code {
         Some(code) => code.len() > part.members.saturating_mul(MOST_INSTRUCTIONS),
         None => false,
@@ -36,7 +36,7 @@ fn is_long(part: &HeldPart) -> bool {
 }
 
 // Takes their code from the parts of a new machine whose code is long and isn't that of many, unless all are to have theirs.
-pub(crate) fn loosen_new(alloc: Global, codes: Codes, uses: &TextUses, parts: &mut [HeldPart])
+pub(crate) fn loosen_new(alloc: Global, codes: Codes, uses: &TextUses, parts: &mut [MachinePart])
     requires numbered { length parts.old ≤ length uses.now.numbers }
     ensures loosens { Loosens parts.old parts.new }
     ensures all { codes ≡ Codes.All → parts.new ≡ parts.old }
@@ -48,7 +48,7 @@ pub(crate) fn loosen_new(alloc: Global, codes: Codes, uses: &TextUses, parts: &m
 }
 
 // Takes their code from the parts whose code is long and isn't that of many.
-fn loosen_few(alloc: Global, uses: &TextUses, parts: &mut [HeldPart])
+fn loosen_few(alloc: Global, uses: &TextUses, parts: &mut [MachinePart])
     requires { length parts.old ≤ length uses.now.numbers }
     ensures { Loosens parts.old parts.new }
 {
@@ -75,7 +75,7 @@ pub(crate) fn long_texts(
     uses: &TextUses,
     slots: &[usize],
     texts: &[GroupText],
-    parts: &[HeldPart],
+    parts: &[MachinePart],
 ) -> Result<TextUses, NoMemory>
     requires slots { length slots.now ≡ length parts.now }
     requires texts { length texts.now ≡ length parts.now }
@@ -98,7 +98,7 @@ pub(crate) fn loosen_waking(
     uses: &TextUses,
     fresh: &TextUses,
     texts: &[GroupText],
-    parts: &mut [HeldPart],
+    parts: &mut [MachinePart],
 )
     requires texts { length texts.now ≡ length parts.old }
     requires some { All (λ part. 0 < length part.map.items) parts.old }
@@ -113,7 +113,7 @@ pub(crate) fn loosen_waking(
 
 // Whether a part with this text goes without its code.
 fn goes_without(
-    part: &HeldPart,
+    part: &MachinePart,
     text: &GroupText,
     wide: &Option<Wide>,
     uses: &TextUses,
@@ -134,7 +134,7 @@ fn will_have_few(text: &GroupText, uses: &TextUses, fresh: &TextUses) -> bool {
 }
 
 // Takes its code from a part, if it is to lose it.
-fn loosen_if(alloc: Global, loose: bool, part: &mut HeldPart)
+fn loosen_if(alloc: Global, loose: bool, part: &mut MachinePart)
     ensures loosens { (part.new ≡ part.old) ⊎ IsLoosened part.old part.new }
     ensures code { loose ≡ true → part.new.code ≡ None }
 {
@@ -144,7 +144,7 @@ fn loosen_if(alloc: Global, loose: bool, part: &mut HeldPart)
 }
 
 // Takes its code from a part. It reads nothing any more.
-fn loosen(alloc: Global, part: &mut HeldPart)
+fn loosen(alloc: Global, part: &mut MachinePart)
     ensures { IsLoosened part.old part.new }
 {
     part.code = None;
@@ -155,7 +155,7 @@ fn loosen(alloc: Global, part: &mut HeldPart)
 pub(crate) fn coded_of(
     alloc: Global,
     slots: &[usize],
-    parts: &[HeldPart],
+    parts: &[MachinePart],
 ) -> Result<Vec<usize>, AllocError>
     requires { length slots.now ≡ length parts.now }
     ensures { IfOk result (λ coded. (k : ℕ) → Contains coded.items k ↔ HasCodeIn slots.now parts.now k) }

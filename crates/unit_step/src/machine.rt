@@ -2,10 +2,10 @@
 ghost use Rattle.std.specs.Prelude.{◌≡◌, ◌≢◌, ℕ, Bool, List, [], ◌-◌, vec_len, vec_capacity, ◌+◌, ◌^◌, ◌<◌, ◌≤◌, ◌⊎◌, true, false, length, count_by, option_map, All, None, Some, Err, IsTrue, is_some, IfSome, IfNone, IfOk, IfErr, OnOk, OnErr, if◌then◌else◌};
 ghost use Rattle.std.specs.Bool.{OnTrue, OnFalse};
 ghost use Rattle.ternary.specs.Counts.{raised};
-ghost use Rattle.path_meaning.specs.declared.TheConstants.{RAILS};
-ghost use Rattle.path_meaning.specs.Words.{GraphData, nodes, IsRailed, IsSound, IsStep};
-ghost use Rattle.oscillation_x.specs.Moved.{ListsChanges};
-ghost use Rattle.oscillation_x.specs.Settling.{IsJoinStep, StaysOrBecomesX};
+ghost use Rattle.switch_paths.specs.declared.TheConstants.{RAILS};
+ghost use Rattle.switch_paths.specs.Words.{GraphData, nodes, IsRailed, IsSound, IsStep};
+ghost use Rattle.settling.specs.Moved.{ListsChanges};
+ghost use Rattle.settling.specs.Settling.{IsJoinStep, StaysOrBecomesX};
 ghost use Rattle.analysis_cache.specs.Words.{texts_of, IsGrown, HoldsKept, HoldsNearlyKept};
 ghost use Rattle.group_text.specs.Words.{GroupTextData, is_among};
 ghost use Rattle.group_analysis.specs.Using.{used_texts};
@@ -17,7 +17,7 @@ ghost use Rattle.unit_step.specs.Listing.{nodes_told};
 ghost use Rattle.wide_groups.specs.Awake.{IsWorked};
 
 use crate::body::Body;
-use crate::lasting::Lasting;
+use crate::last_texts::LastTexts;
 use crate::listing::list;
 use crate::long::Codes;
 use crate::planning::plan_of;
@@ -25,13 +25,13 @@ use analysis_cache::{Analyst, Kept};
 use channel_groups::Groups;
 use circuit_texts::BuildFault;
 use kept_parts::TextUses;
-use machine_parts::HeldPart;
-use oscillation_x::{Recall, Stepper};
-use part_steps::{Agenda, DenseParts, Desk, ReaderLists, advance, mark_all};
-use path_meaning::{Graph, graphs_are_wired};
+use machine_parts::MachinePart;
+use part_steps::{Agenda, DenseParts, ReaderLists, Workspace, advance, mark_all};
+use settling::{Recall, Stepper};
 use std::alloc::Global;
 use std::marker::Model;
 use std::sync::ledger::Ledger;
+use switch_paths::{Graph, graphs_are_wired};
 use ternary::{Steps, Tern};
 use wide_groups::place;
 
@@ -50,18 +50,18 @@ impl Model for Machine {
     ghost use Rattle.std.specs.Prelude.{◌-◌, length, vec_len, vec_capacity};
     ghost use Rattle.kept_parts.specs.Uses.{texts_used, count_distinct};
     ghost use Rattle.machine_laws.specs.Machines.{MachineData};
-    ghost use Rattle.part_steps.specs.Desks.{rooms};
+    ghost use Rattle.part_steps.specs.Workspaces.{rooms};
     ghost use Rattle.machine_parts.specs.Running.{IsMachine};
     ghost use Rattle.part_steps.specs.Dense.{AreDense};
-    ghost use Rattle.unit_step.specs.Lasting.{AreLasting, texts_lasting};
+    ghost use Rattle.unit_step.specs.LastTexts.{AreLastTexts, texts_of_last};
     ghost use Rattle.wide_groups.specs.Awake.{HoldsWide};
 
     ghost Value = { MachineData };
 
-    ghost view = { λ m. record { groups = m.body.groups; parts = m.body.parts.items; uses = texts_used m.body.uses; marks = m.body.agenda.marks; state = m.body.state.items; texts = count_distinct (texts_used m.body.uses); last = texts_lasting m.body.uses.known m.body.lasting; moves = m.moves; placed = m.placed; spare = vec_capacity m.body.state - vec_len m.body.state; wide = m.body.wide } };
+    ghost view = { λ m. record { groups = m.body.groups; parts = m.body.parts.items; uses = texts_used m.body.uses; marks = m.body.agenda.marks; state = m.body.state.items; texts = count_distinct (texts_used m.body.uses); last = texts_of_last m.body.uses.known m.body.last_texts; moves = m.moves; placed = m.placed; spare = vec_capacity m.body.state - vec_len m.body.state; wide = m.body.wide } };
 
-    ghost invariant = { λ m. IsMachine m.body.parts.items m.body.agenda.marks m.body.agenda.waiting (length m.body.state.items) m.body.readers m.body.owners.items m.body.uses.numbers m.body.held m.body.most (rooms m.body.desk)
-        × AreDense m.body.parts.items m.body.dense × AreLasting m.body.parts.items m.body.uses.numbers (length m.body.state.items) (length m.body.uses.known) m.body.lasting
+    ghost invariant = { λ m. IsMachine m.body.parts.items m.body.agenda.marks m.body.agenda.waiting (length m.body.state.items) m.body.readers m.body.owners.items m.body.uses.numbers m.body.held m.body.most (rooms m.body.workspace)
+        × AreDense m.body.parts.items m.body.dense × AreLastTexts m.body.parts.items m.body.uses.numbers (length m.body.state.items) (length m.body.uses.known) m.body.last_texts
         × HoldsWide m.body.parts.items m.body.state.items (vec_capacity m.body.noted) m.body.wide };
 }
 
@@ -142,7 +142,7 @@ impl Machine {
     }
 
     /// The parts, for what goes on without the machine.
-    pub fn into_parts(self) -> Vec<HeldPart>
+    pub fn into_parts(self) -> Vec<MachinePart>
         ensures parts { result.items ≡ self.parts }
         ensures seated { AreSeated (length self.state) self.parts }
         ensures apart { AreApart self.parts }
@@ -153,7 +153,7 @@ impl Machine {
     }
 
     // The parts and the states, for what goes on without the machine. All else is dropped.
-    fn taken_apart(self) -> (Vec<HeldPart>, Vec<Tern>)
+    fn taken_apart(self) -> (Vec<MachinePart>, Vec<Tern>)
         ensures parts { result.0.items ≡ self.parts }
         ensures state { result.1.items ≡ self.state }
         ensures room { vec_capacity result.1 - vec_len result.1 ≡ self.spare }
@@ -171,14 +171,14 @@ impl Machine {
             parts,
             dense: _dense,
             uses: _uses,
-            lasting: _lasting,
+            last_texts: _last_texts,
             held: _held,
             most: _most,
             agenda: _agenda,
             readers: _readers,
             owners: _owners,
             state,
-            desk: _desk,
+            workspace: _workspace,
             wide: _wide,
             noted: _noted,
         } = body;
@@ -223,7 +223,7 @@ impl Machine {
         ensures texts { texts_of kept.new ≡ used_texts self.now.last (texts_of kept.old) }
         ensures bound { kept.new.bound ≡ kept.old.bound }
     {
-        self.body.lasting.use_all(&self.body.uses, kept);
+        self.body.last_texts.use_all(&self.body.uses, kept);
     }
 
     /// Whether some of its groups are stepped by vicinities.
@@ -386,13 +386,13 @@ impl Machine {
             &self.body.readers,
             &mut self.body.state,
             &mut self.body.agenda,
-            &mut self.body.desk,
+            &mut self.body.workspace,
             &mut self.body.wide,
             &mut self.body.noted,
             steps,
         );
         self.moves = moves_after(self.moves, moved);
-        list(&self.body.desk.changes, &self.body.noted, changed);
+        list(&self.body.workspace.changes, &self.body.noted, changed);
         moved
     }
 }

@@ -6,8 +6,8 @@ ghost use Rattle.unit_step.specs.Planning.{IsPlan};
 use channel_groups::{GroupId, Groups};
 use circuit_texts::{BuildFault, GroupSizes, reads_at, sizes_at};
 use kept_parts::{NumberedTexts, TextUses, numbered_at};
-use path_meaning::Graph;
 use std::alloc::Global;
+use switch_paths::Graph;
 use table_keys::TableKeys;
 use ternary::Tern;
 

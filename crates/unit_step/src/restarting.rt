@@ -1,14 +1,14 @@
 //! A machine that starts again in another state.
 ghost use Rattle.std.specs.Prelude.{◌≡◌, ℕ, ◌<◌, ◌≤◌, length};
 ghost use Rattle.std.specs.Bool.{OnTrue};
-ghost use Rattle.path_meaning.specs.declared.TheConstants.{RAILS};
-ghost use Rattle.path_meaning.specs.Switching.{state_at};
-ghost use Rattle.path_meaning.specs.Words.{IsSound};
+ghost use Rattle.switch_paths.specs.declared.TheConstants.{RAILS};
+ghost use Rattle.switch_paths.specs.Switching.{state_at};
+ghost use Rattle.switch_paths.specs.Words.{IsSound};
 ghost use Rattle.unit_step.specs.Restarting.{GivesNode, GivesBelow, MarksBelow, MarksParts, Restarts};
 
 use crate::machine::Machine;
 use part_steps::Agenda;
-use path_meaning::{Graph, RAILS};
+use switch_paths::{Graph, RAILS};
 use ternary::Tern;
 
 impl Machine {

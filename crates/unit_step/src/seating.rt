@@ -8,11 +8,11 @@ ghost use Rattle.machine_laws.specs.Seating.{AddsStale, Disowns, Vacates, Seats,
 use crate::machine::Machine;
 use channel_groups::{GroupId, Groups};
 use kept_parts::TextUses;
-use machine_parts::HeldPart;
+use machine_parts::MachinePart;
 use part_steps::{own, widen_for_parts};
-use path_meaning::Graph;
 use std::alloc::{AllocError, Global};
 use std::mem;
+use switch_paths::Graph;
 use ternary::NoMemory;
 use wide_groups::forget_with;
 
@@ -26,7 +26,7 @@ impl Machine {
         ensures ok { OnOk result (Vacates k self.old self.new) }
         ensures err { OnErr result (self.new ≡ self.old) }
     {
-        self.body.lasting.note(&self.body.parts[k])?;
+        self.body.last_texts.note(&self.body.parts[k])?;
         let alloc = *self.body.state.allocator();
         let gone = mem::replace(&mut self.body.parts[k], no_part(alloc));
         self.body.dense.clear(k);
@@ -59,7 +59,7 @@ impl Machine {
         };
         self.body.parts.reserve(1)?;
         self.body.dense.make_room()?;
-        widen_for_parts(&mut self.body.desk, most, self.body.parts.len() + 1)?;
+        widen_for_parts(&mut self.body.workspace, most, self.body.parts.len() + 1)?;
         self.body.uses.add()?;
         self.body.agenda.wait_more()?;
         own(self.body.parts.len(), members, &mut self.body.owners);
@@ -121,17 +121,17 @@ pub(crate) fn owner_of(owners: &[Option<usize>], node: usize) -> Option<usize>
 }
 
 // How many parts with members a part is.
-fn count_one(part: &HeldPart) -> usize
+fn count_one(part: &MachinePart) -> usize
     ensures { result ≡ one_of part.now }
 {
     if part.members > 0 { 1 } else { 0 }
 }
 
 // A part without a group.
-fn no_part(alloc: Global) -> HeldPart
+fn no_part(alloc: Global) -> MachinePart
     ensures { IsVacant result }
 {
-    HeldPart {
+    MachinePart {
         code: None,
         map: Vec::new(alloc),
         members: 0,
@@ -140,10 +140,10 @@ fn no_part(alloc: Global) -> HeldPart
 }
 
 // The stale part of a group with these members.
-fn part_of(alloc: Global, members: &[usize]) -> Result<HeldPart, AllocError>
+fn part_of(alloc: Global, members: &[usize]) -> Result<MachinePart, AllocError>
     ensures { IfOk result (IsStalePartOf members.now) }
 {
-    Ok(HeldPart {
+    Ok(MachinePart {
         code: None,
         map: Vec::from_slice(alloc, members)?,
         members: members.len(),
@@ -157,7 +157,7 @@ pub(crate) fn add_stale(
     graph: &Graph,
     groups: &Groups,
     ids: &[GroupId],
-    parts: &mut Vec<HeldPart>,
+    parts: &mut Vec<MachinePart>,
     uses: &mut TextUses,
 ) -> Result<(), AllocError>
     requires groups { AreOf graph.now groups.now }

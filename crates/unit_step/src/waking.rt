@@ -10,10 +10,10 @@ ghost use Rattle.unit_step.specs.Waking.{AddsUnlessPassed};
 use channel_groups::{GroupId, Groups};
 use circuit_texts::GroupSizes;
 use group_text::GroupText;
-use machine_parts::HeldPart;
+use machine_parts::MachinePart;
 use part_steps::Agenda;
-use path_meaning::{Graph, graphs_are_wired};
 use std::alloc::{AllocError, Global};
+use switch_paths::{Graph, graphs_are_wired};
 use vicinity::Wide;
 use wide_groups::{holds_node, holds_up_to};
 
@@ -33,14 +33,14 @@ pub(crate) struct Waking {
 pub(crate) struct Risen {
     pub(crate) slots: Vec<usize>,
     pub(crate) texts: Vec<GroupText>,
-    pub(crate) parts: Vec<HeldPart>,
+    pub(crate) parts: Vec<MachinePart>,
     pub(crate) coded: Vec<usize>,
 }
 
 // The least members of the parts that wait, in order, but for those that are passed over.
 pub(crate) fn least_members(
     alloc: Global,
-    parts: &[HeldPart],
+    parts: &[MachinePart],
     agenda: &Agenda,
     wide: &Option<Wide>,
     large: usize,
@@ -91,7 +91,7 @@ fn is_passed(wide: &Option<Wide>, large: usize, node: usize) -> bool
 }
 
 // The least member of a part.
-pub(crate) fn least_member(parts: &[HeldPart], k: usize) -> usize
+pub(crate) fn least_member(parts: &[MachinePart], k: usize) -> usize
     requires inside { k < length parts.now }
     requires some { 0 < length (slice_index_or (map (λ part. part.map.items) parts.now) k []) }
     ensures { result ≡ first_node parts.now k }

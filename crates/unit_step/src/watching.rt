@@ -7,9 +7,9 @@ ghost use Rattle.unit_step.specs.Bodies.{fixed_of};
 ghost use Rattle.unit_step.specs.Listing.{nodes_told};
 
 use crate::machine::Machine;
-use oscillation_x::{Moved, SeenStepper};
-use path_meaning::Graph;
+use settling::{Moved, SeenStepper};
 use std::sync::ledger::Ledger;
+use switch_paths::Graph;
 use ternary::{Steps, Tern};
 
 /// A machine, and the list of the nodes that its last step changed, if there is one. If there is none, any may have

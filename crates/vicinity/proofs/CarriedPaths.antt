@@ -6,13 +6,13 @@ use Rattle.std.proofs.Common.{◌≡◌, ℕ, ◌<◌, ◌≤◌, min, true, inl
 use Rattle.std.proofs.lemmas.Bool.{cases_lt}
 use Rattle.ternary.specs.declared.tern.Tern.{Tern}
 use Rattle.strength_order.specs.declared.TheConstants.{INPUT_LEVEL}
-use Rattle.path_meaning.specs.declared.switching.Switch.{Switch}
-use Rattle.path_meaning.specs.Switching.{is_closed, is_live, switch_state_at}
-use Rattle.path_meaning.specs.Graphs.{GraphData, IsWired, IsStorage, nodes, level_of, place_at}
-use Rattle.path_meaning.specs.Path.{Stand, Joins, Hop, Leads, at_root, LivePath, IsBeaten, Reaches}
-use Rattle.path_meaning.proofs.PathLemmas.{IsBeaten-path, level_fits, Hop-in_range, Leads-definite, Leads-weaker, IsBeaten-by_level, Goes, Goes-here, Goes-from_Reaches, Reaches-from_Goes}
-use Rattle.path_meaning.proofs.SameSwitchesLemmas.{Hop-carried}
-use Rattle.path_meaning.proofs.StrongestPaths.{surely, Definite, onward, and-second}
+use Rattle.switch_paths.specs.declared.switching.Switch.{Switch}
+use Rattle.switch_paths.specs.Switching.{is_closed, is_live, switch_state_at}
+use Rattle.switch_paths.specs.Graphs.{GraphData, IsWired, IsStorage, nodes, level_of, place_at}
+use Rattle.switch_paths.specs.Path.{Stand, Joins, Hop, Leads, at_root, LivePath, IsBeaten, Reaches}
+use Rattle.switch_paths.proofs.PathLemmas.{IsBeaten-path, level_fits, Hop-in_range, Leads-definite, Leads-weaker, IsBeaten-by_level, Goes, Goes-here, Goes-from_Reaches, Reaches-from_Goes}
+use Rattle.switch_paths.proofs.SameSwitchesLemmas.{Hop-carried}
+use Rattle.switch_paths.proofs.StrongestPaths.{surely, Definite, onward, and-second}
 use Rattle.group_meaning.specs.Groups.{AreJoined}
 use Rattle.group_meaning.proofs.LinkLemmas.{Joins-sym}
 use Rattle.group_meaning.proofs.StoragePaths.{hop_to_storage}

@@ -7,13 +7,13 @@ use Rattle.std.proofs.lemmas.Bool.{cases_lt}
 use Rattle.ternary.specs.declared.tern.Tern.{Tern}
 use Rattle.ternary.specs.Tern.{may_one, may_zero}
 use Rattle.strength_order.specs.declared.TheConstants.{INPUT_LEVEL}
-use Rattle.path_meaning.specs.declared.switching.Switch.{Switch}
-use Rattle.path_meaning.specs.Switching.{is_closed, is_live, state_at, switch_state_at}
-use Rattle.path_meaning.specs.Graphs.{GraphData, IsWired, nodes, level_of}
-use Rattle.path_meaning.specs.Path.{Stand, Hop, Leads, at_root, IsBeaten}
-use Rattle.path_meaning.specs.Step.{Responds}
-use Rattle.path_meaning.proofs.PathLemmas.{IsBeaten-path, level_fits, Hop-in_range, Leads-definite, Leads-positive, Goes, Goes-here, Goes-from_Reaches}
-use Rattle.path_meaning.proofs.StrongestPaths.{and-second}
+use Rattle.switch_paths.specs.declared.switching.Switch.{Switch}
+use Rattle.switch_paths.specs.Switching.{is_closed, is_live, state_at, switch_state_at}
+use Rattle.switch_paths.specs.Graphs.{GraphData, IsWired, nodes, level_of}
+use Rattle.switch_paths.specs.Path.{Stand, Hop, Leads, at_root, IsBeaten}
+use Rattle.switch_paths.specs.Step.{Responds}
+use Rattle.switch_paths.proofs.PathLemmas.{IsBeaten-path, level_fits, Hop-in_range, Leads-definite, Leads-positive, Goes, Goes-here, Goes-from_Reaches}
+use Rattle.switch_paths.proofs.StrongestPaths.{and-second}
 use Rattle.group_meaning.proofs.StoragePaths.{hop_to_storage}
 use Rattle.vicinity.specs.declared.pass.Pass.{Pass}
 use Rattle.vicinity.specs.declared.pass.Pass.TheVariants.{Sure, One, Zero}

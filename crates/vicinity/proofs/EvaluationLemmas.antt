@@ -7,10 +7,10 @@ use Rattle.std.proofs.lemmas.List.Elements.{Contains-push, Contains-push_cases, 
 use Rattle.ternary.specs.declared.tern.Tern.{Tern}
 use Rattle.ternary.specs.declared.tern.Tern.TheVariants.{Zero, One, Unk}
 use Rattle.ternary.specs.Tern.{may_one, may_zero}
-use Rattle.path_meaning.specs.Switching.{state_at}
-use Rattle.path_meaning.specs.Graphs.{GraphData, IsWired, IsStorage}
-use Rattle.path_meaning.specs.Step.{IsResponse}
-use Rattle.path_meaning.proofs.ReachedNodes.{reached}
+use Rattle.switch_paths.specs.Switching.{state_at}
+use Rattle.switch_paths.specs.Graphs.{GraphData, IsWired, IsStorage}
+use Rattle.switch_paths.specs.Step.{IsResponse}
+use Rattle.switch_paths.proofs.ReachedNodes.{reached}
 use Rattle.part_words.specs.declared.change.Change.{Change}
 use Rattle.group_meaning.proofs.LinkLemmas.{AreLinked-to}
 use Rattle.vicinity.specs.declared.pass.Pass.TheVariants as Pass

@@ -5,7 +5,7 @@ use Rattle.std.proofs.lemmas.Bool.{cases_lt}
 use Rattle.std.proofs.lemmas.List.{take_more, append-nil, length-set, get_or_append_left, get_or_default}
 use Rattle.std.proofs.lemmas.List.Elements.{Contains-push, Contains-push_cases, Contains-append_left}
 use Rattle.ternary.specs.declared.tern.Tern.{Tern}
-use Rattle.path_meaning.specs.Graphs.{GraphData, IsStorage}
+use Rattle.switch_paths.specs.Graphs.{GraphData, IsStorage}
 use Rattle.group_meaning.specs.Groups.{AreJoined, LinksOver}
 use Rattle.group_meaning.proofs.LinkLemmas.{LinksOver-from, AreLinked-self, AreLinked-joined, AreLinked-trans, AreLinked-to}
 use Rattle.vicinity.specs.Vicinities.{live_graph}

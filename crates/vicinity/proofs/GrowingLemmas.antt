@@ -9,10 +9,10 @@ use Rattle.std.proofs.lemmas.List.Sums.{sum_by-append}
 use Rattle.strength_order.specs.declared.TheConstants.{INPUT_LEVEL}
 use Rattle.ternary.specs.declared.tern.Tern.{Tern}
 use Rattle.ternary.specs.declared.tern.Tern.TheVariants.{Zero}
-use Rattle.path_meaning.specs.declared.switching.Switch.{Switch}
-use Rattle.path_meaning.specs.Switching.{is_live, state_at, state_by, switch_state_at}
-use Rattle.path_meaning.specs.Graphs.{GraphData, IsWired, IsStorage, nodes, level_of, place_at}
-use Rattle.path_meaning.proofs.PathLemmas.{switch_fits}
+use Rattle.switch_paths.specs.declared.switching.Switch.{Switch}
+use Rattle.switch_paths.specs.Switching.{is_live, state_at, state_by, switch_state_at}
+use Rattle.switch_paths.specs.Graphs.{GraphData, IsWired, IsStorage, nodes, level_of, place_at}
+use Rattle.switch_paths.proofs.PathLemmas.{switch_fits}
 use Rattle.group_meaning.specs.Groups.{AreJoined, LinksOver, AreLinked, Group, IsGroup, id_of}
 use Rattle.group_meaning.proofs.GroupLemmas.{member_storage}
 use Rattle.group_rest.specs.Alike.{IsAlike}

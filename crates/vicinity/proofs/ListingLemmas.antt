@@ -3,11 +3,11 @@ use Rattle.std.proofs.Common.{◌≡◌, ◌≢◌, ℕ, zero, suc, ◌+◌, ◌
 use Rattle.std.specs.Prelude.{◌↔◌, Contains, replicate}
 use Rattle.std.proofs.lemmas.Bool.{cases_eq}
 use Rattle.ternary.specs.declared.tern.Tern.{Tern}
-use Rattle.path_meaning.specs.declared.switching.Switch.{Switch}
-use Rattle.path_meaning.specs.Switching.{is_live, switch_state_at}
-use Rattle.path_meaning.specs.Graphs.{GraphData, nodes, place_at}
-use Rattle.path_meaning.specs.Path.{Joins}
-use Rattle.path_meaning.proofs.PathLemmas.{place_inside}
+use Rattle.switch_paths.specs.declared.switching.Switch.{Switch}
+use Rattle.switch_paths.specs.Switching.{is_live, switch_state_at}
+use Rattle.switch_paths.specs.Graphs.{GraphData, nodes, place_at}
+use Rattle.switch_paths.specs.Path.{Joins}
+use Rattle.switch_paths.proofs.PathLemmas.{place_inside}
 use Rattle.vicinity.specs.Lists.{LiveListData, LiveListsData, list_at, places_of, all_at}
 use Rattle.vicinity.specs.Arms.{LeadsTo}
 use Rattle.vicinity.specs.LiveLists.{HasEnd, HasGate, AreListsOf, AddsAt, AddsEnds, AreListedBelow}

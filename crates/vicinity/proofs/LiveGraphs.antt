@@ -6,12 +6,12 @@ use Rattle.std.proofs.lemmas.Bool.{cases_Bool}
 use Rattle.std.proofs.lemmas.List.{length-map, get_or-map}
 use Rattle.ternary.specs.declared.tern.Tern.{Tern}
 use Rattle.ternary.specs.Tern.{may_one, may_zero}
-use Rattle.path_meaning.specs.declared.switching.Switch.{Switch}
-use Rattle.path_meaning.specs.Switching.{is_live, switch_state_at}
-use Rattle.path_meaning.specs.Graphs.{GraphData, IsWired, FitsPlace, place_at, IsStorage}
-use Rattle.path_meaning.specs.Path.{Stand, Hop, Leads, at_root, LivePath, IsBlocked, Reaches}
-use Rattle.path_meaning.specs.Step.{Responds}
-use Rattle.path_meaning.proofs.PathLemmas.{IsBeaten-path, place_inside}
+use Rattle.switch_paths.specs.declared.switching.Switch.{Switch}
+use Rattle.switch_paths.specs.Switching.{is_live, switch_state_at}
+use Rattle.switch_paths.specs.Graphs.{GraphData, IsWired, FitsPlace, place_at, IsStorage}
+use Rattle.switch_paths.specs.Path.{Stand, Hop, Leads, at_root, LivePath, IsBlocked, Reaches}
+use Rattle.switch_paths.specs.Step.{Responds}
+use Rattle.switch_paths.proofs.PathLemmas.{IsBeaten-path, place_inside}
 use Rattle.group_meaning.specs.Groups.{AreJoined, LinksOver}
 use Rattle.group_meaning.specs.Laws.{StandsAt}
 use Rattle.group_meaning.proofs.StoragePaths.{in_one_group}

@@ -7,10 +7,10 @@ use Rattle.std.proofs.lemmas.List.{get_or-set_same, get_or-set_other, take_more}
 use Rattle.std.proofs.lemmas.List.Elements.{Contains-push_cases}
 use Rattle.ternary.specs.declared.tern.Tern.{Tern}
 use Rattle.ternary.specs.declared.tern.Tern.TheVariants.{Zero}
-use Rattle.path_meaning.specs.declared.switching.Switch.{Switch}
-use Rattle.path_meaning.specs.Switching.{is_live, state_by, state_at}
-use Rattle.path_meaning.specs.Graphs.{GraphData, place_at}
-use Rattle.path_meaning.specs.Path.{Joins}
+use Rattle.switch_paths.specs.declared.switching.Switch.{Switch}
+use Rattle.switch_paths.specs.Switching.{is_live, state_by, state_at}
+use Rattle.switch_paths.specs.Graphs.{GraphData, place_at}
+use Rattle.switch_paths.specs.Path.{Joins}
 use Rattle.vicinity.specs.Lists.{LiveListData, LiveListsData, places_of, all_at}
 use Rattle.vicinity.specs.Arms.{LeadsTo}
 use Rattle.vicinity.specs.LiveLists.{HasEnd, AreListsOf, TurnsAtNode, IsLiveBy, ComesLive, TurnsGate}

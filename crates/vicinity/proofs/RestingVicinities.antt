@@ -7,11 +7,11 @@ use Rattle.std.specs.Prelude.{◌↔◌}
 use Rattle.ternary.specs.declared.tern.Tern.{Tern}
 use Rattle.ternary.specs.Tern.{may_one, may_zero}
 use Rattle.strength_order.specs.declared.TheConstants.{INPUT_LEVEL}
-use Rattle.path_meaning.specs.Switching.{state_at}
-use Rattle.path_meaning.specs.Graphs.{GraphData, IsWired, level_of}
-use Rattle.path_meaning.specs.Path.{Reaches}
-use Rattle.path_meaning.specs.Step.{Responds, IsResponse}
-use Rattle.path_meaning.proofs.JoinedPaths.{reach_on, roots_reach}
+use Rattle.switch_paths.specs.Switching.{state_at}
+use Rattle.switch_paths.specs.Graphs.{GraphData, IsWired, level_of}
+use Rattle.switch_paths.specs.Path.{Reaches}
+use Rattle.switch_paths.specs.Step.{Responds, IsResponse}
+use Rattle.switch_paths.proofs.JoinedPaths.{reach_on, roots_reach}
 use Rattle.group_meaning.specs.Groups.{AreJoined}
 use Rattle.vicinity.specs.Vicinities.{live_graph}
 use Rattle.vicinity.proofs.CarriedPaths.{IsClosedSet, closed_stays, SwitchesStay, SwitchesStay-sym, StartsAt, reaches_stays}

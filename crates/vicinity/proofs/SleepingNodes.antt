@@ -5,13 +5,13 @@ use Rattle.std.specs.Prelude.{Contains}
 use Rattle.std.proofs.lemmas.List.Elements.{Contains-get_or}
 use Rattle.ternary.specs.declared.tern.Tern.{Tern}
 use Rattle.ternary.proofs.TernLemmas.{same_or_other}
-use Rattle.path_meaning.specs.declared.switching.Switch.{Switch}
-use Rattle.path_meaning.specs.declared.switching.SwitchState.{SwitchState}
-use Rattle.path_meaning.specs.declared.switching.SwitchState.TheVariants.{Open, Closed, Unknown}
-use Rattle.path_meaning.specs.Switching.{is_live, state_at, switch_state_at}
-use Rattle.path_meaning.specs.Graphs.{GraphData, IsWired, place_at}
-use Rattle.path_meaning.specs.Path.{Joins}
-use Rattle.path_meaning.specs.Step.{IsResponse}
+use Rattle.switch_paths.specs.declared.switching.Switch.{Switch}
+use Rattle.switch_paths.specs.declared.switching.SwitchState.{SwitchState}
+use Rattle.switch_paths.specs.declared.switching.SwitchState.TheVariants.{Open, Closed, Unknown}
+use Rattle.switch_paths.specs.Switching.{is_live, state_at, switch_state_at}
+use Rattle.switch_paths.specs.Graphs.{GraphData, IsWired, place_at}
+use Rattle.switch_paths.specs.Path.{Joins}
+use Rattle.switch_paths.specs.Step.{IsResponse}
 use Rattle.group_meaning.specs.Groups.{AreJoined, LinksOver, TouchesAny, Group, IsGroup, id_of}
 use Rattle.group_meaning.proofs.LinkLemmas.{Joins-sym, LinksOver-from, AreLinked-self, AreLinked-joined, AreLinked-trans, AreLinked-sym, AreLinked-to}
 use Rattle.vicinity.specs.Vicinities.{live_graph, AreNear, IsVicinity}

@@ -5,11 +5,11 @@ use Rattle.std.proofs.Common.{◌≡◌, ◌≢◌, ℕ, ◌<◌, Bool, true, fa
 use Rattle.std.specs.Prelude.{Contains}
 use Rattle.ternary.specs.declared.tern.Tern.{Tern}
 use Rattle.ternary.specs.declared.tern.Tern.TheVariants.{Zero, One, Unk}
-use Rattle.path_meaning.specs.Switching.{state_at}
-use Rattle.path_meaning.specs.Graphs.{GraphData, IsWired, IsStorage, nodes}
-use Rattle.path_meaning.specs.Step.{IsResponse}
-use Rattle.path_meaning.proofs.ExistingSteps.{exists}
-use Rattle.path_meaning.proofs.UniqueSteps.{response_is_unique}
+use Rattle.switch_paths.specs.Switching.{state_at}
+use Rattle.switch_paths.specs.Graphs.{GraphData, IsWired, IsStorage, nodes}
+use Rattle.switch_paths.specs.Step.{IsResponse}
+use Rattle.switch_paths.proofs.ExistingSteps.{exists}
+use Rattle.switch_paths.proofs.UniqueSteps.{response_is_unique}
 use Rattle.group_meaning.specs.Groups.{Group, IsGroup, id_of}
 use Rattle.group_meaning.proofs.LinkLemmas.{AreLinked-to}
 use Rattle.part_words.specs.declared.change.Change.{Change}

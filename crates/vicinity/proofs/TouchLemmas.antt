@@ -8,13 +8,13 @@ use Rattle.vicinity.specs.LiveLists.{HasGate}
 use Rattle.ternary.specs.declared.tern.Tern.{Tern}
 use Rattle.ternary.specs.declared.tern.Tern.TheVariants.{Zero}
 use Rattle.ternary.proofs.TernLemmas.{same_or_other}
-use Rattle.path_meaning.specs.declared.switching.Switch.{Switch}
-use Rattle.path_meaning.specs.declared.switching.SwitchState.{SwitchState}
-use Rattle.path_meaning.specs.declared.switching.SwitchState.TheVariants.{Open, Closed, Unknown}
-use Rattle.path_meaning.specs.contracts.switching.SwitchStatePartialEq.TheImpl as states
-use Rattle.path_meaning.specs.Switching.{state_at, state_by, switch_state_at}
-use Rattle.path_meaning.specs.Graphs.{GraphData, place_at}
-use Rattle.path_meaning.specs.Path.{Joins}
+use Rattle.switch_paths.specs.declared.switching.Switch.{Switch}
+use Rattle.switch_paths.specs.declared.switching.SwitchState.{SwitchState}
+use Rattle.switch_paths.specs.declared.switching.SwitchState.TheVariants.{Open, Closed, Unknown}
+use Rattle.switch_paths.specs.contracts.switching.SwitchStatePartialEq.TheImpl as states
+use Rattle.switch_paths.specs.Switching.{state_at, state_by, switch_state_at}
+use Rattle.switch_paths.specs.Graphs.{GraphData, place_at}
+use Rattle.switch_paths.specs.Path.{Joins}
 use Rattle.part_words.specs.declared.change.Change.{Change}
 use Rattle.vicinity.specs.NodeSets.{NodeSetData}
 use Rattle.vicinity.specs.Flooding.{Wakes}

@@ -4,13 +4,13 @@ use Rattle.std.proofs.lemmas.Bool.{cases_lt}
 use Rattle.ternary.specs.declared.tern.Tern.{Tern}
 use Rattle.ternary.specs.Tern.{may_one, may_zero}
 use Rattle.strength_order.specs.declared.TheConstants.{INPUT_LEVEL}
-use Rattle.path_meaning.specs.declared.switching.Switch.{Switch}
-use Rattle.path_meaning.specs.declared.switching.SwitchState.{SwitchState}
-use Rattle.path_meaning.specs.Switching.{is_closed, is_live, state_at, switch_state_at}
-use Rattle.path_meaning.specs.Graphs.{GraphData, IsWired, nodes, level_of, place_at}
-use Rattle.path_meaning.specs.Path.{Stand, Joins, Hop, at_root, IsBeaten}
-use Rattle.path_meaning.proofs.PathLemmas.{Goes-from_Reaches, Goes-more, Reaches-from_Goes, Leads-more}
-use Rattle.path_meaning.proofs.StrongestPaths.{closed-live}
+use Rattle.switch_paths.specs.declared.switching.Switch.{Switch}
+use Rattle.switch_paths.specs.declared.switching.SwitchState.{SwitchState}
+use Rattle.switch_paths.specs.Switching.{is_closed, is_live, state_at, switch_state_at}
+use Rattle.switch_paths.specs.Graphs.{GraphData, IsWired, nodes, level_of, place_at}
+use Rattle.switch_paths.specs.Path.{Stand, Joins, Hop, at_root, IsBeaten}
+use Rattle.switch_paths.proofs.PathLemmas.{Goes-from_Reaches, Goes-more, Reaches-from_Goes, Leads-more}
+use Rattle.switch_paths.proofs.StrongestPaths.{closed-live}
 use Rattle.vicinity.specs.declared.pass.Pass.{Pass}
 use Rattle.vicinity.specs.declared.pass.Pass.TheVariants.{Sure, One, Zero}
 use Rattle.vicinity.specs.Entries.{crosses, own_strength, SureWay, RailWay, IsWay, IsFloorAt}

@@ -3,10 +3,10 @@
 use Rattle.std.specs.Prelude.{◌≡◌, ℕ, List, true, Contains, Some}
 use Rattle.vicinity.specs.Lists.{LiveListData, places_of}
 use Rattle.ternary.specs.declared.tern.Tern.{Tern}
-use Rattle.path_meaning.specs.declared.switching.Switch.{Switch}
-use Rattle.path_meaning.specs.Switching.{is_closed, is_live, switch_state_at}
-use Rattle.path_meaning.specs.Graphs.{GraphData, place_at}
-use Rattle.path_meaning.specs.Path.{Joins}
+use Rattle.switch_paths.specs.declared.switching.Switch.{Switch}
+use Rattle.switch_paths.specs.Switching.{is_closed, is_live, switch_state_at}
+use Rattle.switch_paths.specs.Graphs.{GraphData, place_at}
+use Rattle.switch_paths.specs.Path.{Joins}
 use Rattle.vicinity.specs.declared.arms.Arm.{Arm}
 
 -- the switch at the place leads from the node to the arm's other end, isn't open, and has the arm's level; the arm tells whether it is closed

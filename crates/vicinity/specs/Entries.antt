@@ -5,11 +5,11 @@ use Rattle.std.specs.Prelude.{◌≡◌, ℕ, ◌<◌, ◌≤◌, min, Bool, tru
 use Rattle.ternary.specs.declared.tern.Tern.{Tern}
 use Rattle.ternary.specs.Tern.{may_one, may_zero}
 use Rattle.strength_order.specs.declared.TheConstants.{INPUT_LEVEL}
-use Rattle.path_meaning.specs.declared.switching.Switch.{Switch}
-use Rattle.path_meaning.specs.declared.switching.SwitchState.{SwitchState}
-use Rattle.path_meaning.specs.Switching.{is_closed, is_live, state_at, switch_state_at}
-use Rattle.path_meaning.specs.Graphs.{GraphData, level_of, place_at}
-use Rattle.path_meaning.specs.Path.{Joins, HasDefinite, IsBeaten, Reaches}
+use Rattle.switch_paths.specs.declared.switching.Switch.{Switch}
+use Rattle.switch_paths.specs.declared.switching.SwitchState.{SwitchState}
+use Rattle.switch_paths.specs.Switching.{is_closed, is_live, state_at, switch_state_at}
+use Rattle.switch_paths.specs.Graphs.{GraphData, level_of, place_at}
+use Rattle.switch_paths.specs.Path.{Joins, HasDefinite, IsBeaten, Reaches}
 use Rattle.vicinity.specs.NodeSets.{IsIn}
 use Rattle.vicinity.specs.declared.pass.Pass.{Pass}
 use Rattle.vicinity.specs.declared.pass.Pass.TheVariants.{Sure, One, Zero}

@@ -5,9 +5,9 @@ use Rattle.vicinity.specs.Lists.{LiveListData}
 use Rattle.ternary.specs.declared.tern.Tern.{Tern}
 use Rattle.ternary.specs.Tern.{may_one, may_zero}
 use Rattle.part_words.specs.Noting.{after}
-use Rattle.path_meaning.specs.Switching.{state_at}
-use Rattle.path_meaning.specs.Graphs.{GraphData}
-use Rattle.path_meaning.specs.Step.{IsResponse}
+use Rattle.switch_paths.specs.Switching.{state_at}
+use Rattle.switch_paths.specs.Graphs.{GraphData}
+use Rattle.switch_paths.specs.Step.{IsResponse}
 use Rattle.part_words.specs.declared.change.Change.{Change}
 use Rattle.vicinity.specs.NodeSets.{NodeSetData, IsIn}
 use Rattle.vicinity.specs.Touching.{IsAwake}

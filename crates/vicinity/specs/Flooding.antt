@@ -1,7 +1,7 @@
 -- The flood from touched nodes to all that are near them.
 use Rattle.std.specs.Prelude.{◌≡◌, ℕ, ◌<◌, ◌⊎◌, List, ◌++◌, length, Contains, slice_index}
 use Rattle.ternary.specs.declared.tern.Tern.{Tern}
-use Rattle.path_meaning.specs.Graphs.{GraphData, IsStorage}
+use Rattle.switch_paths.specs.Graphs.{GraphData, IsStorage}
 use Rattle.vicinity.specs.NodeSets.{NodeSetData, IsIn}
 use Rattle.vicinity.specs.Arms.{LeadsTo}
 use Rattle.vicinity.specs.Touching.{IsAwake}

@@ -3,7 +3,7 @@
 use Rattle.std.specs.Prelude.{◌≡◌, ℕ, ◌-◌, List, [], ◌++◌, length, replicate}
 use Rattle.strength_order.specs.declared.TheConstants.{INPUT_LEVEL}
 use Rattle.ternary.specs.declared.tern.Tern.{Tern}
-use Rattle.path_meaning.specs.Graphs.{GraphData, IsWired, nodes}
+use Rattle.switch_paths.specs.Graphs.{GraphData, IsWired, nodes}
 use Rattle.vicinity.specs.Lists.{LiveListData, LiveListsData}
 use Rattle.vicinity.specs.LiveLists.{AreListsOf}
 use Rattle.vicinity.specs.Wides.{WideData}

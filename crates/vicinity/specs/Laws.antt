@@ -2,9 +2,9 @@
 -- After Bryant, "A Switch-Level Model and Simulator for MOS Digital Systems", 1984.
 use Rattle.std.specs.Prelude.{ℕ, ◌↔◌, List, Contains}
 use Rattle.ternary.specs.declared.tern.Tern.{Tern}
-use Rattle.path_meaning.specs.Graphs.{GraphData, IsWired, IsStorage}
-use Rattle.path_meaning.specs.Path.{Stand, IsBlocked}
-use Rattle.path_meaning.specs.Step.{IsResponse}
+use Rattle.switch_paths.specs.Graphs.{GraphData, IsWired, IsStorage}
+use Rattle.switch_paths.specs.Path.{Stand, IsBlocked}
+use Rattle.switch_paths.specs.Step.{IsResponse}
 use Rattle.group_meaning.specs.Groups.{AreLinked, Group, IsGroup}
 use Rattle.group_meaning.specs.Laws.{StandsAt}
 use Rattle.group_rest.specs.Rest.{Rests, Responded}

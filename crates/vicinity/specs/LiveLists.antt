@@ -3,10 +3,10 @@
 use Rattle.std.specs.Prelude.{◌≡◌, ◌≢◌, ℕ, ◌<◌, ◌⊎◌, ◌↔◌, Bool, true, false, List, length, Contains, Some}
 use Rattle.std.specs.List.Sorted.{IsPermutation}
 use Rattle.ternary.specs.declared.tern.Tern.{Tern}
-use Rattle.path_meaning.specs.declared.switching.Switch.{Switch}
-use Rattle.path_meaning.specs.Switching.{is_live, state_by}
-use Rattle.path_meaning.specs.Graphs.{GraphData, nodes, place_at}
-use Rattle.path_meaning.specs.Path.{Joins}
+use Rattle.switch_paths.specs.declared.switching.Switch.{Switch}
+use Rattle.switch_paths.specs.Switching.{is_live, state_by}
+use Rattle.switch_paths.specs.Graphs.{GraphData, nodes, place_at}
+use Rattle.switch_paths.specs.Path.{Joins}
 use Rattle.vicinity.specs.Lists.{LiveListData, LiveListsData, places_of, all_at}
 use Rattle.vicinity.specs.Arms.{LeadsTo}
 

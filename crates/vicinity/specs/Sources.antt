@@ -2,10 +2,10 @@
 use Rattle.std.specs.Prelude.{◌≡◌, ℕ, min, Bool, true, List, Some}
 use Rattle.ternary.specs.declared.tern.Tern.{Tern}
 use Rattle.strength_order.specs.declared.TheConstants.{INPUT_LEVEL}
-use Rattle.path_meaning.specs.declared.switching.Switch.{Switch}
-use Rattle.path_meaning.specs.Switching.{state_at, switch_state_at}
-use Rattle.path_meaning.specs.Graphs.{GraphData, level_of, place_at}
-use Rattle.path_meaning.specs.Path.{Joins}
+use Rattle.switch_paths.specs.declared.switching.Switch.{Switch}
+use Rattle.switch_paths.specs.Switching.{state_at, switch_state_at}
+use Rattle.switch_paths.specs.Graphs.{GraphData, level_of, place_at}
+use Rattle.switch_paths.specs.Path.{Joins}
 use Rattle.vicinity.specs.declared.pass.Pass.{Pass}
 use Rattle.vicinity.specs.declared.pass.Pass.TheVariants.{Sure, One, Zero}
 use Rattle.vicinity.specs.Entries.{crosses, own_strength, HasAbove}

@@ -2,10 +2,10 @@
 use Rattle.std.specs.Prelude.{◌≡◌, ◌≢◌, ℕ, zero, suc, ◌+◌, ◌-◌, ◌*◌, ◌<◌, ◌≤◌, ◌⊎◌, min, Bool, true, false, if◌then◌else◌, List, length, Contains, slice_index, slice_index_or, Some}
 use Rattle.vicinity.specs.Lists.{LiveListData, places_of}
 use Rattle.ternary.specs.declared.tern.Tern.{Tern}
-use Rattle.path_meaning.specs.declared.switching.Switch.{Switch}
-use Rattle.path_meaning.specs.Switching.{switch_state_at}
-use Rattle.path_meaning.specs.Graphs.{GraphData, nodes, place_at}
-use Rattle.path_meaning.specs.Path.{Joins}
+use Rattle.switch_paths.specs.declared.switching.Switch.{Switch}
+use Rattle.switch_paths.specs.Switching.{switch_state_at}
+use Rattle.switch_paths.specs.Graphs.{GraphData, nodes, place_at}
+use Rattle.switch_paths.specs.Path.{Joins}
 use Rattle.vicinity.specs.declared.pass.Pass.{Pass}
 use Rattle.vicinity.specs.declared.pass.Sweep.{Sweep}
 use Rattle.vicinity.specs.Arms.{ListsLive}

@@ -2,11 +2,11 @@
 -- After Bryant, "A Switch-Level Model and Simulator for MOS Digital Systems", 1984.
 use Rattle.std.specs.Prelude.{◌≡◌, ◌≢◌, ℕ, ◌⊎◌, Bool, List, length, Contains, Some}
 use Rattle.ternary.specs.declared.tern.Tern.{Tern}
-use Rattle.path_meaning.specs.declared.switching.Switch.{Switch}
-use Rattle.path_meaning.specs.Switching.{state_at, state_by}
-use Rattle.path_meaning.specs.Graphs.{GraphData, IsStorage, place_at}
-use Rattle.path_meaning.specs.Path.{Joins}
-use Rattle.path_meaning.specs.Step.{IsResponse}
+use Rattle.switch_paths.specs.declared.switching.Switch.{Switch}
+use Rattle.switch_paths.specs.Switching.{state_at, state_by}
+use Rattle.switch_paths.specs.Graphs.{GraphData, IsStorage, place_at}
+use Rattle.switch_paths.specs.Path.{Joins}
+use Rattle.switch_paths.specs.Step.{IsResponse}
 use Rattle.group_meaning.specs.Groups.{Group, IsGroup}
 use Rattle.vicinity.specs.NodeSets.{IsIn}
 use Rattle.vicinity.specs.Flooding.{IsNext}

@@ -2,9 +2,9 @@
 -- After Bryant, "A Switch-Level Model and Simulator for MOS Digital Systems", 1984.
 use Rattle.std.specs.Prelude.{ℕ, List, map, if◌then◌else◌, Option, Some, None}
 use Rattle.ternary.specs.declared.tern.Tern.{Tern}
-use Rattle.path_meaning.specs.declared.switching.Switch.{Switch}
-use Rattle.path_meaning.specs.Switching.{is_live, switch_state_at}
-use Rattle.path_meaning.specs.Graphs.{GraphData}
+use Rattle.switch_paths.specs.declared.switching.Switch.{Switch}
+use Rattle.switch_paths.specs.Switching.{is_live, switch_state_at}
+use Rattle.switch_paths.specs.Graphs.{GraphData}
 use Rattle.group_meaning.specs.Groups.{AreLinked, Group, IsGroup}
 
 -- what stands at a place, but no open switch

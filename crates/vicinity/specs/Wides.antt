@@ -2,7 +2,7 @@
 -- After Bryant, "A Switch-Level Model and Simulator for MOS Digital Systems", 1984.
 use Rattle.std.specs.Prelude.{◌≡◌, ℕ, ◌⊎◌, Bool, true, false, List, length, Contains}
 use Rattle.ternary.specs.declared.tern.Tern.{Tern}
-use Rattle.path_meaning.specs.Graphs.{GraphData, IsStorage, nodes}
+use Rattle.switch_paths.specs.Graphs.{GraphData, IsStorage, nodes}
 use Rattle.vicinity.specs.Lists.{LiveListsData}
 use Rattle.vicinity.specs.LiveLists.{AreListsOf}
 use Rattle.vicinity.specs.NodeSets.{NodeSetData, IsIn}

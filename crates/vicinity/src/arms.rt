@@ -1,12 +1,12 @@
 //! The switches at a node that aren't open.
 ghost use Rattle.std.specs.Prelude.{◌≡◌, ◌≢◌, ℕ, ◌<◌, ◌≤◌, length, None, IfSome};
-ghost use Rattle.path_meaning.specs.Graphs.{nodes};
+ghost use Rattle.switch_paths.specs.Graphs.{nodes};
 ghost use Rattle.machine_parts.specs.Marking.{AreOnce};
 ghost use Rattle.vicinity.specs.Words.{places_of, IsArm, LeadsTo};
 
 use crate::live_list::LiveList;
-use path_meaning::{Graph, SwitchState, switch_state};
 use smallvec::SmallVec;
+use switch_paths::{Graph, SwitchState, switch_state};
 use ternary::Tern;
 
 /// The places at a node: most nodes have few.

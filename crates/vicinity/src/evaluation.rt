@@ -1,7 +1,7 @@
 //! The evaluation of the nodes that are awake.
 ghost use Rattle.std.specs.Prelude.{◌≡◌, ℕ, ◌+◌, ◌-◌, ◌<◌, ◌≤◌, ◌++◌, List, length, replicate, All, IfOk, vec_len, vec_capacity, slice_index};
 ghost use Rattle.ternary.specs.declared.tern.Tern.{Tern};
-ghost use Rattle.path_meaning.specs.Words.{state_at, nodes};
+ghost use Rattle.switch_paths.specs.Words.{state_at, nodes};
 ghost use Rattle.vicinity.specs.Words.{IsIn, ListsLive, AreListsOf, HasRails, NotesWhere, AreChanges, IsPaid, IsScratch};
 
 use crate::flood::flood;
@@ -12,10 +12,10 @@ use crate::pass::Pass::{One, Sure, Zero};
 use crate::pass::Sweep;
 use crate::passes::run_pass;
 use part_words::Change;
-use path_meaning::{Graph, graphs_are_wired, response};
 use std::alloc::{AllocError, Global};
 use std::marker::Model;
 use std::sync::ledger::Ledger;
+use switch_paths::{Graph, graphs_are_wired, response};
 use ternary::{Steps, Tern};
 
 /// The room in which nodes that are awake are evaluated.

@@ -1,14 +1,14 @@
 //! The flood from the touched nodes to all nodes that are near them.
 ghost use Rattle.std.specs.Prelude.{◌≡◌, ℕ, ◌+◌, ◌<◌, ◌≤◌, length, All, Contains, IsTrue, ◌↔◌};
-ghost use Rattle.path_meaning.specs.Graphs.{nodes, IsStorage};
+ghost use Rattle.switch_paths.specs.Graphs.{nodes, IsStorage};
 ghost use Rattle.vicinity.specs.Words.{IsIn, ListsLive, LeadsTo, IsAwake, size_of, Wakes};
 
 use crate::arms::{arm_at, listed};
 use crate::live_list::LiveList;
 use crate::node_set::NodeSet;
-use path_meaning::Graph;
 use std::sync::ledger::Ledger;
 use strength_order::INPUT_LEVEL;
+use switch_paths::Graph;
 use ternary::{Steps, Tern};
 
 /// Finds the nodes that are awake: those that a touched node is near.

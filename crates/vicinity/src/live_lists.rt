@@ -1,6 +1,6 @@
 //! The places at all nodes of a graph, with those in front whose switches aren't open.
 ghost use Rattle.std.specs.Prelude.{◌≡◌, ℕ, ◌+◌, ◌<◌, length, slice_set, Contains, Some, IfOk, OnOk};
-ghost use Rattle.path_meaning.specs.Graphs.{nodes};
+ghost use Rattle.switch_paths.specs.Graphs.{nodes};
 ghost use Rattle.machine_parts.specs.Marking.{AreOnce};
 ghost use Rattle.vicinity.specs.Words.{places_of, all_at, with_lists, AreListsOf, AreListedBelow, AddsEnds, TurnsAtNode, TurnsGate};
 
@@ -8,9 +8,9 @@ use crate::arms::listed;
 use crate::live_list::{LiveList, add_at, add_empty, empty_lists};
 use crate::spots::{HEADS, Spots, hint_at, note_all, note_exchange};
 use crate::turning::conducts;
-use path_meaning::{Graph, Switch};
 use std::alloc::{AllocError, Global};
 use std::marker::Model;
+use switch_paths::{Graph, Switch};
 use ternary::Tern;
 
 /// For each node the places of the switches with an end there, and of those with their gate there.

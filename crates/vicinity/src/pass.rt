@@ -4,7 +4,7 @@ ghost use Rattle.vicinity.specs.Entries.{own_strength};
 
 use crate::live_list::LiveList;
 use crate::node_set::NodeSet;
-use path_meaning::Graph;
+use switch_paths::Graph;
 use ternary::Tern;
 
 /// What a pass looks for.

@@ -1,7 +1,7 @@
 //! A pass over the nodes that are awake: each starts with what is its own and what comes from input nodes, and the pass
 //! goes on from there.
 ghost use Rattle.std.specs.Prelude.{◌≡◌, ℕ, ◌+◌, ◌*◌, ◌<◌, ◌≤◌, length};
-ghost use Rattle.path_meaning.specs.Graphs.{nodes};
+ghost use Rattle.switch_paths.specs.Graphs.{nodes};
 ghost use Rattle.vicinity.specs.Words.{IsIn, AreEntries, IsSweep, Starts, cost_at, size_of};
 
 use crate::node_set::NodeSet;

@@ -1,13 +1,13 @@
 //! A node gets a state from outside.
 ghost use Rattle.std.specs.Prelude.{◌≡◌, ℕ, ◌<◌, ◌⊎◌, length, slice_set, Contains};
-ghost use Rattle.path_meaning.specs.Graphs.{nodes, IsStorage};
+ghost use Rattle.switch_paths.specs.Graphs.{nodes, IsStorage};
 ghost use Rattle.vicinity.specs.Words.{LeadsTo, AreListsOf, Wakes, Stirs, PlacesGroup};
 
 use crate::flood::{look, wake};
 use crate::live_lists::LiveLists;
 use crate::node_set::NodeSet;
 use crate::touching::take_state;
-use path_meaning::{Graph, graphs_are_wired};
+use switch_paths::{Graph, graphs_are_wired};
 use ternary::Tern;
 
 /// Gives a node this state. The storage nodes next to it are touched, itself too if it is one, and so are the ends of the

@@ -1,15 +1,15 @@
 //! What a node starts with in a pass: by itself, and from the input nodes next to it.
 ghost use Rattle.std.specs.Prelude.{◌≡◌, ◌+◌, ◌<◌, ◌≤◌, min, length, Some};
-ghost use Rattle.path_meaning.specs.Graphs.{nodes};
+ghost use Rattle.switch_paths.specs.Graphs.{nodes};
 ghost use Rattle.vicinity.specs.Words.{own_strength, HasAbove, IsFloorAt, IsWay, HasSources, ListsLive, cost_at, HasEdge, is_crossed};
 
 use crate::arms::{Arm, arm_at, listed};
 use crate::flood::is_storage;
 use crate::live_list::LiveList;
 use crate::pass::{Pass, own_strength};
-use path_meaning::{Graph, graphs_are_wired};
 use std::sync::ledger::Ledger;
 use strength_order::INPUT_LEVEL;
+use switch_paths::{Graph, graphs_are_wired};
 use ternary::{Steps, Tern};
 
 /// The entry with which a node starts in a pass, whose floor there is this: the greatest strength that is its own or

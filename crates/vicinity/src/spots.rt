@@ -1,7 +1,7 @@
 //! Where the places stand in the lists of their ends. No clause rests on it: it only saves the search.
 
 use crate::live_list::LiveList;
-use path_meaning::Graph;
+use switch_paths::Graph;
 
 /// The spots at which a place was put last in the lists of its two ends.
 #[derive(Clone, Copy)]

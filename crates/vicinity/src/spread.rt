@@ -1,6 +1,6 @@
 //! A pass goes on from node to node until nothing more comes.
 ghost use Rattle.std.specs.Prelude.{◌≡◌, ℕ, ◌+◌, ◌<◌, ◌≤◌, length, slice_index};
-ghost use Rattle.path_meaning.specs.Graphs.{nodes};
+ghost use Rattle.switch_paths.specs.Graphs.{nodes};
 ghost use Rattle.vicinity.specs.Words.{IsIn, IsWay, AreWays, IsSpreadOf, IsSpreadFrom, IsSweep, GoesOn, Raises, IsSpreadOver, cost_at, owed};
 
 use crate::arms::{arm_at, listed};

@@ -2,7 +2,7 @@
 ghost use Rattle.std.specs.Prelude.{◌≡◌, ◌<◌, ◌≤◌, length, vec_capacity};
 ghost use Rattle.std.specs.Bool.{OnTrue};
 ghost use Rattle.ternary.specs.declared.tern.Tern.{Tern};
-ghost use Rattle.path_meaning.specs.Graphs.{nodes};
+ghost use Rattle.switch_paths.specs.Graphs.{nodes};
 ghost use Rattle.vicinity.specs.Words.{IsPaid, AreListsOf, StepsGroup};
 
 use crate::evaluation::{Scratch, evaluate};
@@ -10,8 +10,8 @@ use crate::live_lists::LiveLists;
 use crate::node_set::NodeSet;
 use crate::touching::take_all;
 use part_words::Change;
-use path_meaning::{Graph, graphs_are_wired};
 use std::sync::ledger::Ledger;
+use switch_paths::{Graph, graphs_are_wired};
 use ternary::{Steps, Tern};
 
 /// Takes a step, plain or joining, over the members of groups of which those that no touched node is near rest. It

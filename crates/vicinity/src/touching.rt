@@ -1,6 +1,6 @@
 //! Changes are written, and what they stir is touched.
 ghost use Rattle.std.specs.Prelude.{◌≡◌, ℕ, ◌<◌, length, Contains, slice_set};
-ghost use Rattle.path_meaning.specs.Graphs.{nodes};
+ghost use Rattle.switch_paths.specs.Graphs.{nodes};
 ghost use Rattle.part_words.specs.declared.change.Change.{Change};
 ghost use Rattle.machine_parts.specs.Words.{IsTaken};
 ghost use Rattle.vicinity.specs.Words.{Wakes, AreListsOf, TurnsAt, Touches};
@@ -9,7 +9,7 @@ use crate::flood::wake;
 use crate::live_lists::LiveLists;
 use crate::node_set::NodeSet;
 use part_words::Change;
-use path_meaning::{Graph, switch_state};
+use switch_paths::{Graph, switch_state};
 use ternary::Tern;
 
 /// Writes changes into the state, and touches the storage nodes at which a switch changes by them.

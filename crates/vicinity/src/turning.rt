@@ -3,10 +3,10 @@ ghost use Rattle.std.specs.Prelude.{◌≡◌, ◌<◌, ◌≤◌, true, false, 
 ghost use Rattle.std.specs.List.Sorted.{IsPermutation};
 ghost use Rattle.machine_parts.specs.Marking.{AreOnce};
 ghost use Rattle.std.specs.Option.{IfNone};
-ghost use Rattle.path_meaning.specs.Switching.{is_live, state_by};
+ghost use Rattle.switch_paths.specs.Switching.{is_live, state_by};
 ghost use Rattle.vicinity.specs.Turning.{Turns};
 
-use path_meaning::{SwitchKind, SwitchState, switch_state};
+use switch_paths::{SwitchKind, SwitchState, switch_state};
 use ternary::Tern;
 
 /// Puts the place at this spot of a list in front or behind, and answers how many are in front then: it changes places

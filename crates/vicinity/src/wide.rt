@@ -1,6 +1,6 @@
 //! Large groups: their switches in a graph of their own, and which of its nodes are touched.
 ghost use Rattle.std.specs.Prelude.{◌≡◌, ℕ, ◌+◌, ◌<◌, ◌≤◌, ◌↔◌, min, true, length, slice_set, Contains, IfOk, vec_len, vec_capacity};
-ghost use Rattle.path_meaning.specs.Graphs.{nodes, IsStorage};
+ghost use Rattle.switch_paths.specs.Graphs.{nodes, IsStorage};
 ghost use Rattle.vicinity.specs.Words.{IsIn, AreListsOf, AreChanges, IsPaid, Calms, Turned, PlacesWide, GrowsWide};
 
 use crate::evaluation::{Scratch, evaluate};
@@ -10,11 +10,11 @@ use crate::node_set::NodeSet;
 use crate::placing::place_awake;
 use crate::touching::take_state;
 use part_words::Change;
-use path_meaning::{Graph, graphs_are_wired};
 use std::alloc::{AllocError, Global};
 use std::marker::Model;
 use std::sync::ledger::Ledger;
 use strength_order::INPUT_LEVEL;
+use switch_paths::{Graph, graphs_are_wired};
 use ternary::{NoMemory, Steps, Tern};
 
 /// The groups that are stepped by vicinities.

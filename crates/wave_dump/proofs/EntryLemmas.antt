@@ -5,9 +5,9 @@ use Rattle.std.specs.Bool.{OnTrue, OnFalse}
 use Rattle.std.proofs.lemmas.Bool.{cases_eq}
 use Rattle.std.proofs.lemmas.List.{ext_get_or, get_or-set_same, get_or-set_other, length-set, length-map, set-get_or, get_or_default, get_or_past}
 use Rattle.std.proofs.lemmas.List.Elements.{Contains-append_left, Contains-append_right}
-use Rattle.oscillation_x.specs.Moved.{ListsChanges}
-use Rattle.oscillation_x.proofs.NumbersLemmas.{shift}
-use Rattle.path_meaning.specs.Switching.{state_at}
+use Rattle.settling.specs.Moved.{ListsChanges}
+use Rattle.settling.proofs.NumbersLemmas.{shift}
+use Rattle.switch_paths.specs.Switching.{state_at}
 use Rattle.ternary.specs.declared.tern.Tern.{Tern}
 use Rattle.ternary.specs.declared.tern.Tern.TheVariants.{Zero, One, Unk}
 use Rattle.wave_dump.specs.Entries.{ShownEntry, entries_of, shown_of, no_entry, listed_at, AreListed, ListsEntry, MarksNode, MarksAll, AreMarked}

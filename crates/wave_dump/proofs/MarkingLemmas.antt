@@ -2,7 +2,7 @@
 use Rattle.std.proofs.Common.{◌≡◌, ℕ, ◌+◌, ◌<◌, ◌≤◌, inl, inr, List, length, sym, ◌∙◌, ap, arith, subst}
 use Rattle.std.specs.Prelude.{Contains, slice_index_or}
 use Rattle.std.proofs.lemmas.Bool.{cases_eq}
-use Rattle.oscillation_x.proofs.NumbersLemmas.{shift}
+use Rattle.settling.proofs.NumbersLemmas.{shift}
 use Rattle.wave_dump.specs.Entries.{listed_at, MarksNode}
 
 -- what is listed at the first nodes of a list, so many, is marked

@@ -2,11 +2,11 @@
 use Rattle.std.proofs.Common.{◌≡◌, ℕ, List, [], ◌++◌, Bool, true, false, Option, None, Some, Result, Ok, Err, OnOk, OnErr, inl, inr, sym, ◌∙◌, ap, append_assoc, append-nil}
 use Rattle.std.specs.Prelude.{is_some}
 use Rattle.std.specs.Io.KnownBytes.{append_known}
-use Rattle.port_edge.specs.declared.ports.PortFault.{PortFault}
-use Rattle.port_edge.specs.declared.ports.PortFault.TheVariants.{Failed, NoMemory}
-use Rattle.port_edge.specs.Ports.{faults_after, refusals_after, faults_at, refusals_at, RefusedOnce}
-use Rattle.port_edge.specs.Sending.{Sends, WritesPart}
-use Rattle.port_edge.proofs.SendingLemmas.{append_known-append, sends_part, part_longer}
+use Rattle.ports.specs.declared.ports.PortFault.{PortFault}
+use Rattle.ports.specs.declared.ports.PortFault.TheVariants.{Failed, NoMemory}
+use Rattle.ports.specs.Ports.{faults_after, refusals_after, faults_at, refusals_at, RefusedOnce}
+use Rattle.ports.specs.Sending.{Sends, WritesPart}
+use Rattle.ports.proofs.SendingLemmas.{append_known-append, sends_part, part_longer}
 use Rattle.ternary.specs.Counts.{raised}
 use Rattle.wave_dump.specs.Pens.{SinkSeen, IsSent, Stands}
 

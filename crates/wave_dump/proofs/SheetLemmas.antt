@@ -3,9 +3,9 @@ use Rattle.std.proofs.Common.{◌≡◌, ℕ, ◌+◌, ◌<◌, Bool, true, fals
 use Rattle.std.specs.Prelude.{All, Contains, IsSome, unwrap_or, slice_index_or, if◌then◌else◌}
 use Rattle.std.specs.List.Sorted.{IsStrictlyIncreasing}
 use Rattle.std.proofs.lemmas.List.{get_or-map, get_or_default, length-map}
-use Rattle.oscillation_x.specs.Moved.{ListsChanges}
-use Rattle.oscillation_x.specs.PlainStepping.{numbers_from}
-use Rattle.oscillation_x.proofs.NumbersLemmas.{numbers-count, number_at}
+use Rattle.settling.specs.Moved.{ListsChanges}
+use Rattle.settling.specs.PlainStepping.{numbers_from}
+use Rattle.settling.proofs.NumbersLemmas.{numbers-count, number_at}
 use Rattle.ternary.specs.declared.tern.Tern.{Tern}
 use Rattle.wave_dump.specs.Dumps.{Page, later, change_text, header, ending, closing}
 use Rattle.wave_dump.specs.Entries.{ShownEntry, IsInside, entries_of, shown_of, no_entry, AreMarked, AreListed, MarksAll}

@@ -1,7 +1,7 @@
 -- What is told scene by scene is the dump of the run.
 use Rattle.std.proofs.Common.{◌≡◌, ℕ, ◌+◌, List, [], ◌∷◌, ◌++◌, true, false, Some, refl, sym, ◌∙◌, ap, append-nil, append_assoc}
 use Rattle.ternary.specs.declared.tern.Tern.{Tern}
-use Rattle.oscillation_x.specs.Passing.{see_all, last_state}
+use Rattle.settling.specs.Passing.{see_all, last_state}
 use Rattle.wave_dump.specs.Comments.{comment}
 use Rattle.wave_dump.specs.Dumps.{later, at_time, opening, passing_lines, moving, page_behind, dump_from}
 use Rattle.wave_dump.specs.Laws.{DumpsAreTold}

@@ -2,7 +2,7 @@
 -- IEEE Standard 1364, section 18.
 use Rattle.std.specs.Prelude.{ℕ, ◌+◌, ◌-◌, ◌^◌, min, Bool, true, false, List, [], ◌∷◌, ◌++◌, length, Option, None, Some, codes, decimal}
 use Rattle.ternary.specs.declared.tern.Tern.{Tern}
-use Rattle.oscillation_x.specs.Passing.{last_state}
+use Rattle.settling.specs.Passing.{last_state}
 use Rattle.wave_dump.specs.Codes.{code_of}
 use Rattle.wave_dump.specs.Comments.{escaped, comment}
 use Rattle.wave_dump.specs.Scenes.{EntryData, Scene, Wrote, Watched, Became, Passed}

@@ -1,9 +1,9 @@
 -- What writes a dump to a sink, and what it comes to at a fault.
 use Rattle.std.specs.Prelude.{◌≡◌, ℕ, List, ◌++◌, Option, None, Some, Result, Ok, Err, OnOk, OnErr}
 use Rattle.std.specs.Io.KnownBytes.{append_known}
-use Rattle.port_edge.specs.declared.ports.PortFault.{PortFault}
-use Rattle.port_edge.specs.Ports.{faults_after, RefusedOnce}
-use Rattle.port_edge.specs.Sending.{WritesPart}
+use Rattle.ports.specs.declared.ports.PortFault.{PortFault}
+use Rattle.ports.specs.Ports.{faults_after, RefusedOnce}
+use Rattle.ports.specs.Sending.{WritesPart}
 
 -- what is seen of a sink: the bytes that were written to it, if they are told, and its counts of faults and of refused memory
 pub record SinkSeen : Type 0 where

@@ -2,8 +2,8 @@
 use Rattle.std.specs.Prelude.{◌≡◌, ℕ, ◌<◌, ◌+◌, ◌-◌, ◌⊎◌, Bool, true, false, List, [], ◌∷◌, ◌++◌, length, take, All, Option, None, Some, unwrap_or, if◌then◌else◌}
 use Rattle.ternary.specs.declared.tern.Tern.{Tern}
 use Rattle.told_lines.specs.Lines.{Line, Wave, Refused, Told, line_text}
-use Rattle.oscillation_x.specs.Passing.{last_state}
-use Rattle.oscillation_x.specs.Passes.{see_pass}
+use Rattle.settling.specs.Passing.{last_state}
+use Rattle.settling.specs.Passes.{see_pass}
 use Rattle.wave_dump.specs.Comments.{comment}
 use Rattle.wave_dump.specs.Dumps.{Page, empty_page, later, change_text, opening, closing}
 use Rattle.wave_dump.specs.Entries.{ShownEntry, entries_of, shown_of}

@@ -9,7 +9,7 @@ ghost use Rattle.wave_dump.specs.Values.{change_lines, value_line, values_in};
 use crate::entries::Entry;
 use crate::pen::Pen;
 use crate::putting::{write_time, write_value};
-use port_edge::Sink;
+use ports::Sink;
 use ternary::Tern;
 
 // Takes the values of the marked entries in this state, and writes those that are other ones than before, in the

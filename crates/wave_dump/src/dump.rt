@@ -1,7 +1,7 @@
 //! The writer of a dump.
 ghost use Rattle.std.specs.Prelude.{◌≡◌, ◌≤◌, ◌++◌, List, [], true, None, Some, All, IsSome, OnOk, OnErr, is_some, length};
-ghost use Rattle.oscillation_x.specs.Moved.{ListsChanges};
-ghost use Rattle.port_edge.specs.Ports.{faults_after, refusals_after};
+ghost use Rattle.settling.specs.Moved.{ListsChanges};
+ghost use Rattle.ports.specs.Ports.{faults_after, refusals_after};
 ghost use Rattle.ternary.specs.declared.tern.Tern.{Tern};
 ghost use Rattle.told_lines.specs.Lines.{IsShort, line_seen, line_text, room_of};
 ghost use Rattle.wave_dump.specs.Comments.{comment};
@@ -17,13 +17,13 @@ use crate::header::{refresh_all, write_header};
 use crate::marking::could_mark;
 use crate::pen::Pen;
 use crate::putting::{write_comment, write_time};
-use oscillation_x::{Moved, Never, Observer, Onlooker};
-use port_edge::{NotedFile, PortFault, Sink};
+use ports::{NotedFile, PortFault, Sink};
+use printed_lines::LineBuf;
+use settling::{Moved, Never, Observer, Onlooker};
 use std::alloc::Global;
 use std::marker::Model;
 use ternary::{NoMemory, Tern};
 use told_lines::{Line, Lines, put_told};
-use wave_print::LineBuf;
 
 /// A writer of a dump to its sink: it hears the lines of a run, and looks on at its steps and phases.
 ///

@@ -1,7 +1,7 @@
 //! The entries of a dump: with their values, and listed by their nodes.
 ghost use Rattle.std.specs.Prelude.{◌≡◌, ◌≢◌, ◌<◌, [], ◌∷◌, ◌++◌, All, IsTrue, length, map, slice_set, IfOk, OnOk};
 ghost use Rattle.std.specs.Bool.{OnTrue, OnFalse};
-ghost use Rattle.path_meaning.specs.Switching.{state_at};
+ghost use Rattle.switch_paths.specs.Switching.{state_at};
 ghost use Rattle.wave_dump.specs.Entries.{AreListed, IsInside, ListsEntry, MarksNode, entries_of};
 ghost use Rattle.wave_dump.specs.Values.{value_in};
 

@@ -7,7 +7,7 @@ ghost use Rattle.wave_dump.specs.Values.{value_lines, values_in};
 use crate::entries::Entry;
 use crate::pen::Pen;
 use crate::putting::{write_entry, write_value};
-use port_edge::Sink;
+use ports::Sink;
 use ternary::Tern;
 
 // Takes the values of all entries in this state.

@@ -4,7 +4,7 @@ ghost use Rattle.std.specs.Bool.{OnTrue};
 ghost use Rattle.wave_dump.specs.Entries.{MarksAll};
 
 use crate::entries::{Numbers, mark};
-use oscillation_x::Moved;
+use settling::Moved;
 use std::alloc::AllocError;
 
 // Marks the entries of the nodes that a move may have changed, if entries are listed by their nodes, and answers

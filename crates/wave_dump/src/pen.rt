@@ -3,7 +3,7 @@ ghost use Rattle.std.specs.Prelude.{◌≡◌, [], ◌++◌};
 ghost use Rattle.wave_dump.specs.Pens.{IsSent};
 
 use crate::due::DueText;
-use port_edge::{NotedFile, PortFault, Sink, send};
+use ports::{NotedFile, PortFault, Sink, send};
 use std::alloc::Global;
 use std::marker::Model;
 use std::snapshot::Snapshot;

@@ -8,7 +8,7 @@ ghost use Rattle.wave_dump.specs.Values.{letter, value_start, value_line};
 use crate::entries::Entry;
 use crate::pen::Pen;
 use itoa::Buffer;
-use port_edge::Sink;
+use ports::Sink;
 use ternary::Tern;
 
 /// How many digits there are in codes.

@@ -1,9 +1,9 @@
 use crate::Dump;
-use port_edge::{MemSink, PortFault};
+use ports::{MemSink, PortFault};
+use printed_lines::{FaultCode, FaultPlace, LineBuf};
 use std::test::Fail;
 use ternary::Tern;
 use told_lines::{Line, Lines};
-use wave_print::{FaultCode, FaultPlace, LineBuf};
 
 // One line is told, and the run is refused before its first step; one call of the sink fails.
 #[test]

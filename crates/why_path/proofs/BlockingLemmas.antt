@@ -3,11 +3,11 @@ use Rattle.std.proofs.Common.{◌≡◌, ℕ, ◌+◌, ◌<◌, ◌≤◌, List,
 use Rattle.std.specs.Prelude.{slice_index}
 use Rattle.std.proofs.lemmas.List.{drop_more, take_more, take-append-drop}
 use Rattle.ternary.specs.declared.tern.Tern.{Tern}
-use Rattle.path_meaning.specs.Graphs.{GraphData, nodes}
-use Rattle.path_meaning.specs.Path.{Stand, Hop, Leads, at_root, IsBlocked}
-use Rattle.path_meaning.specs.Plain.{AreStrongest}
-use Rattle.path_meaning.proofs.PathLemmas.{Hop-unique, Leads-more, Goes, Goes-leads, Goes-more}
-use Rattle.path_meaning.proofs.TableMeaning.{unbeaten, beaten_below}
+use Rattle.switch_paths.specs.Graphs.{GraphData, nodes}
+use Rattle.switch_paths.specs.Path.{Stand, Hop, Leads, at_root, IsBlocked}
+use Rattle.switch_paths.specs.Plain.{AreStrongest}
+use Rattle.switch_paths.proofs.PathLemmas.{Hop-unique, Leads-more, Goes, Goes-leads, Goes-more}
+use Rattle.switch_paths.proofs.TableMeaning.{unbeaten, beaten_below}
 
 -- if something is left of a walk, a hop leads on, and the rest leads on from there
 pub led : (g : GraphData) (state : List Tern) (here there : Stand) (hops : List ℕ) (k : ℕ) → k < length hops →

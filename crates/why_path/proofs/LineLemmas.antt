@@ -2,7 +2,7 @@
 use Rattle.std.proofs.Common.{◌≡◌, ℕ, ◌+◌, ◌<◌, List, [], ◌∷◌, ◌++◌, length, take, get_or, refl, sym, ◌∙◌, ap, append_assoc, append-nil}
 use Rattle.std.proofs.lemmas.List.{take_more}
 use Rattle.ternary.specs.declared.tern.Tern.{Tern}
-use Rattle.path_meaning.specs.Path.{Stand, Hop, Leads}
+use Rattle.switch_paths.specs.Path.{Stand, Hop, Leads}
 use Rattle.netlist.specs.Circuits.{CircuitData, called}
 use Rattle.why_path.specs.Lines.{hop_text, hops_text, AreTold}
 

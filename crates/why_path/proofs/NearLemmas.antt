@@ -7,13 +7,13 @@ use Rattle.std.proofs.lemmas.List.{take-map, take-append-drop, length-map}
 use Rattle.std.proofs.lemmas.List.Elements.{All-nil, All-cons}
 use Rattle.ternary.specs.declared.tern.Tern.{Tern}
 use Rattle.strength_order.specs.declared.TheConstants.{INPUT_LEVEL}
-use Rattle.path_meaning.specs.declared.walks.Walk.{Walk}
-use Rattle.path_meaning.specs.Switching.{state_at}
-use Rattle.path_meaning.specs.Graphs.{GraphData, IsWired, nodes, level_of}
-use Rattle.path_meaning.specs.Path.{Stand, Leads, at_root, LivePath, Reaches}
-use Rattle.path_meaning.proofs.PathLemmas.{place_inside, Leads-cut, Leads-unique, Leads-in_range, Goes, Goes-front, Goes-leads, Goes-from_unblocked, unblocked-from_Goes}
-use Rattle.path_meaning.proofs.StrongestPaths.{best_table}
-use Rattle.path_meaning.proofs.InputNodes.{unbeaten}
+use Rattle.switch_paths.specs.declared.walks.Walk.{Walk}
+use Rattle.switch_paths.specs.Switching.{state_at}
+use Rattle.switch_paths.specs.Graphs.{GraphData, IsWired, nodes, level_of}
+use Rattle.switch_paths.specs.Path.{Stand, Leads, at_root, LivePath, Reaches}
+use Rattle.switch_paths.proofs.PathLemmas.{place_inside, Leads-cut, Leads-unique, Leads-in_range, Goes, Goes-front, Goes-leads, Goes-from_unblocked, unblocked-from_Goes}
+use Rattle.switch_paths.proofs.StrongestPaths.{best_table}
+use Rattle.switch_paths.proofs.InputNodes.{unbeaten}
 use Rattle.group_meaning.proofs.StoragePaths.{from_itself}
 use Rattle.group_meaning.specs.Groups.{Group, IsGroup}
 use Rattle.group_text.specs.Texts.{local_nodes, local_graph, local_state}

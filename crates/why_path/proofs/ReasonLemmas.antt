@@ -6,12 +6,12 @@ use Rattle.std.specs.Prelude.{slice_get, slice_index}
 use Rattle.std.proofs.lemmas.Bool.{cases_lt}
 use Rattle.std.proofs.lemmas.List.{take-append-le, take_all, take-take, length-take-le, reverse-append}
 use Rattle.ternary.specs.declared.tern.Tern.{Tern}
-use Rattle.path_meaning.specs.Switching.{state_at}
-use Rattle.path_meaning.specs.Graphs.{GraphData, IsWired, nodes, level_of}
-use Rattle.path_meaning.specs.Path.{Stand, Hop, at_root, IsBeaten}
-use Rattle.path_meaning.specs.Plain.{AreStrongest}
-use Rattle.path_meaning.proofs.PathLemmas.{beyond, Hop-over, Hop-in_range, level_fits, Leads-unique, Leads-positive, Leads-weaker, Goes, Goes-here, Goes-leads, Goes-more, Goes-from_unblocked, unblocked-from_Goes}
-use Rattle.path_meaning.proofs.TableMeaning.{unbeaten, most_unbeaten}
+use Rattle.switch_paths.specs.Switching.{state_at}
+use Rattle.switch_paths.specs.Graphs.{GraphData, IsWired, nodes, level_of}
+use Rattle.switch_paths.specs.Path.{Stand, Hop, at_root, IsBeaten}
+use Rattle.switch_paths.specs.Plain.{AreStrongest}
+use Rattle.switch_paths.proofs.PathLemmas.{beyond, Hop-over, Hop-in_range, level_fits, Leads-unique, Leads-positive, Leads-weaker, Goes, Goes-here, Goes-leads, Goes-more, Goes-from_unblocked, unblocked-from_Goes}
+use Rattle.switch_paths.proofs.TableMeaning.{unbeaten, most_unbeaten}
 use Rattle.why_path.specs.declared.search.Found.{Found}
 use Rattle.why_path.specs.declared.search.Last.{Last}
 use Rattle.why_path.specs.Reasons.{IsReason, PassesTwice, IsBestReason}

@@ -11,9 +11,9 @@ use Rattle.std.proofs.lemmas.Option.{slice_get_read, slice_get_past, slice_get_w
 use Rattle.std.proofs.Math.ListN.{set, length-set}
 use Rattle.ternary.specs.declared.tern.Tern.{Tern}
 use Rattle.strength_order.specs.declared.TheConstants.{INPUT_LEVEL}
-use Rattle.path_meaning.specs.Graphs.{GraphData, IsWired, nodes, level_of}
-use Rattle.path_meaning.specs.Path.{Stand}
-use Rattle.path_meaning.proofs.PathLemmas.{Hop-unique, Hop-weaker, level_fits}
+use Rattle.switch_paths.specs.Graphs.{GraphData, IsWired, nodes, level_of}
+use Rattle.switch_paths.specs.Path.{Stand}
+use Rattle.switch_paths.proofs.PathLemmas.{Hop-unique, Hop-weaker, level_fits}
 use Rattle.why_path.specs.declared.search.Found.{Found}
 use Rattle.why_path.specs.declared.search.Last.{Last}
 use Rattle.why_path.specs.Search.{HaveSwitches, list_at, IsRootOf, IsFoundBy, IsIn, IsPassed, IsSettled, IsRootIn, IsSearch, IsNew, Keeps, LandsAt, Lands, not_seen}

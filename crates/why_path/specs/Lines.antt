@@ -2,8 +2,8 @@
 -- numbers of the transistors between them.
 use Rattle.std.specs.Prelude.{◌≡◌, ℕ, ◌+◌, Bool, true, false, List, [], ◌∷◌, ◌++◌, codes, decimal}
 use Rattle.ternary.specs.declared.tern.Tern.{Tern}
-use Rattle.path_meaning.specs.declared.walks.Walk.{Walk}
-use Rattle.path_meaning.specs.Path.{Stand, Hop, at_root}
+use Rattle.switch_paths.specs.declared.walks.Walk.{Walk}
+use Rattle.switch_paths.specs.Path.{Stand, Hop, at_root}
 use Rattle.netlist.specs.Circuits.{CircuitData, called}
 
 -- the word for a rail: "may be 1" is `one`, "may be 0" is `zero`

@@ -1,6 +1,6 @@
 -- What is near a node: its group.
 use Rattle.std.specs.Prelude.{ℕ, List, Contains}
-use Rattle.path_meaning.specs.Graphs.{GraphData, IsStorage}
+use Rattle.switch_paths.specs.Graphs.{GraphData, IsStorage}
 use Rattle.group_meaning.specs.Groups.{IsGroup}
 
 -- these are the members and the places of the switches of the group of a storage node; an input node has no group

@@ -2,10 +2,10 @@
 -- After Bryant, "Boolean Analysis of MOS Circuits", 1987.
 use Rattle.std.specs.Prelude.{◌≡◌, ℕ, ◌<◌, ◌≤◌, Bool, true, List, length, take, Option, Some, None}
 use Rattle.ternary.specs.declared.tern.Tern.{Tern}
-use Rattle.path_meaning.specs.declared.walks.Walk.{Walk}
-use Rattle.path_meaning.specs.Switching.{state_at}
-use Rattle.path_meaning.specs.Graphs.{GraphData}
-use Rattle.path_meaning.specs.Path.{Stand, LivePath, IsBlocked}
+use Rattle.switch_paths.specs.declared.walks.Walk.{Walk}
+use Rattle.switch_paths.specs.Switching.{state_at}
+use Rattle.switch_paths.specs.Graphs.{GraphData}
+use Rattle.switch_paths.specs.Path.{Stand, LivePath, IsBlocked}
 
 -- a reason for a rail of a node is a live path to it that is unblocked and whose root's state has the rail
 pub record IsReason (rail : Tern → Bool) (g : GraphData) (state : List Tern) (node root : ℕ) (hops : List ℕ) : Type 0 where

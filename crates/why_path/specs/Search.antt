@@ -4,10 +4,10 @@ use Rattle.std.specs.Prelude.{◌≡◌, ℕ, ◌+◌, ◌<◌, ◌≤◌, ◌�
 use Rattle.std.specs.Option.{option_map_or}
 use Rattle.std.specs.declared.alloc.Global.{Global}
 use Rattle.ternary.specs.declared.tern.Tern.{Tern}
-use Rattle.path_meaning.specs.declared.switching.Switch.{Switch}
-use Rattle.path_meaning.specs.Switching.{state_at}
-use Rattle.path_meaning.specs.Graphs.{GraphData, nodes, level_of, place_at}
-use Rattle.path_meaning.specs.Path.{Stand, Hop}
+use Rattle.switch_paths.specs.declared.switching.Switch.{Switch}
+use Rattle.switch_paths.specs.Switching.{state_at}
+use Rattle.switch_paths.specs.Graphs.{GraphData, nodes, level_of, place_at}
+use Rattle.switch_paths.specs.Path.{Stand, Hop}
 use Rattle.why_path.specs.declared.search.Found.{Found}
 use Rattle.why_path.specs.declared.search.Last.{Last}
 

@@ -3,8 +3,8 @@
 ghost use Rattle.std.specs.Prelude.{◌≡◌, ◌↔◌, IsTrue, length, IfOk};
 ghost use Rattle.why_path.specs.Words.{nodes, AreStrongest, IsBlocked, IsLive};
 
-use path_meaning::{Graph, Walk, WalkFacts, graphs_are_wired, strongest};
 use std::alloc::Global;
+use switch_paths::{Graph, Walk, WalkFacts, graphs_are_wired, strongest};
 use ternary::{NoMemory, Tern};
 
 /// Whether a walk that is a live path under this state isn't blocked: nowhere on its way, its root

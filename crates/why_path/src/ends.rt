@@ -2,10 +2,10 @@
 
 ghost use Rattle.std.specs.Prelude.{◌≡◌, ℕ, ◌<◌, length, Some, IfOk, OnOk, Contains};
 ghost use Rattle.why_path.specs.Words.{list_at, nodes, FitsPlace, HaveSwitches};
-ghost use Rattle.path_meaning.specs.declared.switching.Switch.{Switch};
+ghost use Rattle.switch_paths.specs.declared.switching.Switch.{Switch};
 
-use path_meaning::{Graph, Switch, graphs_are_wired};
 use std::alloc::{AllocError, Global};
+use switch_paths::{Graph, Switch, graphs_are_wired};
 use ternary::NoMemory;
 
 /// For each node the places of the switches that have an end there.

@@ -5,8 +5,8 @@ ghost use Rattle.why_path.specs.Words.{nodes, rail_of, AreGroups, Explains};
 
 use crate::near::near_reason;
 use channel_groups::Groups;
-use path_meaning::{Graph, Walk};
 use std::alloc::Global;
+use switch_paths::{Graph, Walk};
 use ternary::{NoMemory, Tern};
 
 /// A reason for a rail of a node, as [`reason`](crate::reason) gives it, found in the node's group among

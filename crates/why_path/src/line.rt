@@ -6,8 +6,8 @@ ghost use Rattle.why_path.specs.Words.{at_root, called, hop_text, hops_text, no_
 
 use itoa::Buffer;
 use netlist::Circuit;
-use path_meaning::{Graph, Walk, WalkFacts};
 use std::alloc::Global;
+use switch_paths::{Graph, Walk, WalkFacts};
 use ternary::{NoMemory, Tern};
 
 /// The line of a reason, ended by LF: `one <level> <sort> <root>` and ` <number> <node>` for each hop,

@@ -7,9 +7,9 @@ ghost use Rattle.strength_order.specs.declared.TheConstants.{INPUT_LEVEL};
 use crate::reasons::{all_below, reason_from};
 use crate::search::has_rail;
 use group_text::{MOST_MEMBERS, MOST_SWITCHES, text_of_any_size};
-use path_meaning::{Graph, Walk, graphs_are_wired};
 use std::alloc::{AllocError, Global};
 use strength_order::INPUT_LEVEL;
+use switch_paths::{Graph, Walk, graphs_are_wired};
 use ternary::{NoMemory, Tern};
 
 /// A reason for a rail of a node, as [`reason`](crate::reason) gives it, found near the node alone.

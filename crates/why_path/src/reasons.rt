@@ -4,8 +4,8 @@ ghost use Rattle.std.specs.Prelude.{◌≡◌, ◌<◌, length, IfOk};
 ghost use Rattle.why_path.specs.Words.{nodes, rail_of, AreAllBelow, Explains, IsEntryOf, IsTrail, LeadBack};
 
 use crate::search::{Found, search};
-use path_meaning::{Graph, Walk, graphs_are_wired, strongest};
 use std::alloc::{AllocError, Global};
+use switch_paths::{Graph, Walk, graphs_are_wired, strongest};
 use ternary::{NoMemory, Tern};
 
 /// A reason for a rail of a node, "may be 1" where `one` is true and else "may be 0": a live path to

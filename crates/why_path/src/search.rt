@@ -9,9 +9,9 @@ ghost use Rattle.why_path.specs.Words.{nodes, rail_of, AreAllBelow, HaveSwitches
 ghost use Rattle.why_path.specs.declared.search.Found.{Found};
 
 use crate::ends::ends_of;
-use path_meaning::{Graph, WalkFacts, graphs_are_wired};
 use std::alloc::{AllocError, Global};
 use strength_order::INPUT_LEVEL;
+use switch_paths::{Graph, WalkFacts, graphs_are_wired};
 use ternary::{NoMemory, Tern};
 
 /// A node that was found, with a strength that some unblocked path to it has, and where from; a root

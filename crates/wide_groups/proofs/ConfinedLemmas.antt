@@ -2,9 +2,9 @@
 use Rattle.std.proofs.Common.{ℕ, ◌⊎◌, inl, inr, Bool, false, List, [], ◌∷◌, length, None, sym, subst, ap, ◌∙◌, arith}
 use Rattle.std.specs.Prelude.{Contains, slice_index_or}
 use Rattle.std.proofs.lemmas.List.Elements.{Contains-get_or}
-use Rattle.path_meaning.specs.Graphs.{GraphData, IsStorage}
-use Rattle.path_meaning.specs.declared.switching.Switch.{Switch}
-use Rattle.path_meaning.specs.Path.{Joins}
+use Rattle.switch_paths.specs.Graphs.{GraphData, IsStorage}
+use Rattle.switch_paths.specs.declared.switching.Switch.{Switch}
+use Rattle.switch_paths.specs.Path.{Joins}
 use Rattle.group_meaning.specs.Groups.{AreJoined, LinksOver, Group, IsGroup, id_of}
 use Rattle.group_meaning.proofs.LinkLemmas.{LinksOver-from, AreLinked-joined, AreLinked-trans}
 use Rattle.group_rest.specs.Alike.{IsAlike}

@@ -2,7 +2,7 @@
 use Rattle.std.proofs.Common.{◌≡◌, ℕ, Bool, List, length, sym, subst, ◌∙◌}
 use Rattle.std.specs.Prelude.{Contains}
 use Rattle.ternary.specs.declared.tern.Tern.{Tern}
-use Rattle.path_meaning.specs.Graphs.{GraphData, IsStorage, IsWired, nodes}
+use Rattle.switch_paths.specs.Graphs.{GraphData, IsStorage, IsWired, nodes}
 use Rattle.group_meaning.specs.Groups.{Group, IsGroup}
 use Rattle.group_meaning.proofs.LinkLemmas.{AreLinked-self, AreLinked-to}
 use Rattle.group_rest.specs.Alike.{IsAlike}

@@ -3,8 +3,8 @@ use Rattle.std.proofs.Common.{◌≡◌, ℕ, ◌-◌, ◌≤◌, inl, inr, List
 use Rattle.std.specs.Prelude.{min, Option, None, Some, IfSome}
 use Rattle.std.proofs.lemmas.List.{length-append}
 use Rattle.ternary.specs.declared.tern.Tern.{Tern}
-use Rattle.path_meaning.specs.Graphs.{IsStorage, nodes}
-use Rattle.machine_parts.specs.declared.part.HeldPart.{HeldPart}
+use Rattle.switch_paths.specs.Graphs.{IsStorage, nodes}
+use Rattle.machine_parts.specs.declared.part.MachinePart.{MachinePart}
 use Rattle.vicinity.specs.Wides.{WideData}
 use Rattle.vicinity.specs.Growing.{GrowsWide}
 use Rattle.vicinity.proofs.GrowingLemmas.{count_grown, storage_before}
@@ -38,13 +38,13 @@ wide_grown count (Some a) (Some c) grows wide is =
     (c, refl, subst (λ (one : WideData). GrowsWide count one c) same grows)
 
 -- so many nodes has the graph of such groups, if they are known
-pub few_nodes : (parts : List HeldPart) (state : List Tern) (room : ℕ) (wide : Option WideData) → HoldsWide parts state room wide →
+pub few_nodes : (parts : List MachinePart) (state : List Tern) (room : ℕ) (wide : Option WideData) → HoldsWide parts state room wide →
     nodes (graph_in wide) ≤ length state
 few_nodes parts state room None holds = omega arith
 few_nodes parts state room (Some wide) holds = omega (arith, holds.listed.counted)
 
 -- the machine can go on with them once new nodes are there
-pub holds_grown : (parts : List HeldPart) (old more : List Tern) (count room next : ℕ) (a c : Option WideData) → GrowsIn count a c →
+pub holds_grown : (parts : List MachinePart) (old more : List Tern) (count room next : ℕ) (a c : Option WideData) → GrowsIn count a c →
     length more ≡ count - length old → IfSome c (λ _. length (old ++ more) ≤ next) → HoldsWide parts old room a → HoldsWide parts (old ++ more) next c
 holds_grown parts old more count room next None None grows long enough holds = tt
 holds_grown parts old more count room next None (Some c) grows long enough holds = absurd grows
@@ -59,7 +59,7 @@ holds_grown parts old more count room next (Some a) (Some c) grows long enough h
 }
 
 -- and with a smaller bound
-pub holds_lowered : (parts : List HeldPart) (state : List Tern) (room large : ℕ) (wide : Option WideData) → HoldsWide parts state room wide →
+pub holds_lowered : (parts : List MachinePart) (state : List Tern) (room large : ℕ) (wide : Option WideData) → HoldsWide parts state room wide →
     HoldsWide parts state room (lowered large wide)
 holds_lowered parts state room large None holds = tt
 holds_lowered parts state room large (Some wide) holds = record {
@@ -86,7 +86,7 @@ forgets_none members old new forgets wide is =
     ]
 
 -- the machine can go on with them when other parts stand, if their members are those of stale parts still
-pub holds_parts : (old new : List HeldPart) (state : List Tern) (room : ℕ) (wide : Option WideData) →
+pub holds_parts : (old new : List MachinePart) (state : List Tern) (room : ℕ) (wide : Option WideData) →
     ((one : WideData) → wide ≡ Some one → HasStaleOnly new one.graph) → HoldsWide old state room wide → HoldsWide new state room wide
 holds_parts old new state room None only holds = tt
 holds_parts old new state room (Some wide) only holds = record { listed = holds.listed; stale_only = only wide refl; enough = holds.enough }

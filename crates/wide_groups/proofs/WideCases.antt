@@ -2,7 +2,7 @@
 use Rattle.std.proofs.Common.{◌≡◌, ℕ, ◌<◌, ◌≤◌, inl, inr, Bool, true, false, List, length, refl, sym, ap, subst, ◌∙◌, arith}
 use Rattle.std.specs.Prelude.{Contains, Option, None, Some, IfSome, is_some}
 use Rattle.ternary.specs.declared.tern.Tern.{Tern}
-use Rattle.path_meaning.specs.Graphs.{GraphData, IsStorage, nodes}
+use Rattle.switch_paths.specs.Graphs.{GraphData, IsStorage, nodes}
 use Rattle.group_meaning.proofs.LinkLemmas.{AreLinked-to}
 use Rattle.vicinity.specs.Vicinities.{live_graph}
 use Rattle.vicinity.specs.LiveLists.{AreListsOf}
@@ -12,7 +12,7 @@ use Rattle.vicinity.specs.Stepping.{Touches}
 use Rattle.vicinity.specs.Wides.{WideData, StaysWide, Calms, Retouches, PlacesWide}
 use Rattle.vicinity.proofs.LiveGraphs.{storage_whole}
 use Rattle.vicinity.proofs.TouchLemmas.{NoneTwice, Touches-then, Touches-none}
-use Rattle.machine_parts.specs.declared.part.HeldPart.{HeldPart}
+use Rattle.machine_parts.specs.declared.part.MachinePart.{MachinePart}
 use Rattle.machine_parts.specs.Parts.{HasMember, IsStale}
 use Rattle.machine_parts.specs.Stepping.{Moves}
 use Rattle.wide_groups.specs.Moving.{graph_in, touched_in, HasStaleOnly, IsAwakeIn, MovesIn, RetouchesIn, PlacesIn}
@@ -27,7 +27,7 @@ pub none_awake : (state : List Tern) (node : ℕ) → ¬ IsAwakeIn None state no
 none_awake state node (one, there, near) = absurd (omega (arith, there.1))
 
 -- and a step is one of the parts alone
-pub moves_without : (joining : Bool) (parts : List HeldPart) (marks : List Bool) (old new : List Tern) → Moves joining parts marks old new →
+pub moves_without : (joining : Bool) (parts : List MachinePart) (marks : List Bool) (old new : List Tern) → Moves joining parts marks old new →
     MovesIn joining parts marks None old new
 moves_without joining parts marks old new moves = record {
   count = moves.count;
@@ -37,13 +37,13 @@ moves_without joining parts marks old new moves = record {
 }
 
 -- what is awake is a member of a stale part
-pub awake_stale : (parts : List HeldPart) (wide : Option WideData) → ((one : WideData) → wide ≡ Some one → HasStaleOnly parts one.graph) →
+pub awake_stale : (parts : List MachinePart) (wide : Option WideData) → ((one : WideData) → wide ≡ Some one → HasStaleOnly parts one.graph) →
     (state : List Tern) (node : ℕ) → IsAwakeIn wide state node → (k : ℕ) × HasMember parts k node × IsStale parts k
 awake_stale parts None only state node awake = absurd (none_awake state node awake)
 awake_stale parts (Some wide) only state node awake =
     only wide refl node (awake_storage wide.graph state wide.touched.list node awake)
 
-pub stale_only_in : (parts : List HeldPart) (states : List Tern) (room : ℕ) (wide : Option WideData) → HoldsWide parts states room wide →
+pub stale_only_in : (parts : List MachinePart) (states : List Tern) (room : ℕ) (wide : Option WideData) → HoldsWide parts states room wide →
     (one : WideData) → wide ≡ Some one → HasStaleOnly parts one.graph
 stale_only_in parts states room None holds one is = absurd (cc)
 stale_only_in parts states room (Some wide) holds one is =
@@ -51,7 +51,7 @@ stale_only_in parts states room (Some wide) holds one is =
     subst (λ (w : WideData). HasStaleOnly parts w.graph) same holds.stale_only
 
 -- and is below the number of the states
-pub awake_inside : (parts : List HeldPart) (states : List Tern) (room : ℕ) (wide : Option WideData) → HoldsWide parts states room wide →
+pub awake_inside : (parts : List MachinePart) (states : List Tern) (room : ℕ) (wide : Option WideData) → HoldsWide parts states room wide →
     (state : List Tern) (node : ℕ) → IsAwakeIn wide state node → node < length states
 awake_inside parts states room None holds state node awake = absurd (none_awake state node awake)
 awake_inside parts states room (Some wide) holds state node awake =
@@ -59,7 +59,7 @@ awake_inside parts states room (Some wide) holds state node awake =
     omega (arith, storage.inside, holds.listed.counted)
 
 -- without such groups all is well
-pub none_holds : (parts : List HeldPart) (states : List Tern) (room : ℕ) (wide : Option WideData) → wide ≡ None → HoldsWide parts states room wide
+pub none_holds : (parts : List MachinePart) (states : List Tern) (room : ℕ) (wide : Option WideData) → wide ≡ None → HoldsWide parts states room wide
 none_holds parts states room None is = tt
 none_holds parts states room (Some wide) is = absurd (cc)
 
@@ -185,12 +185,12 @@ still_none None (Some c) same is = absurd (cc)
 still_none (Some a) (Some c) same is = absurd (cc)
 
 -- what a machine holds has all nodes, lists of their states, and room for their changes
-pub listed_in : (parts : List HeldPart) (states : List Tern) (room : ℕ) (wide : Option WideData) → HoldsWide parts states room wide →
+pub listed_in : (parts : List MachinePart) (states : List Tern) (room : ℕ) (wide : Option WideData) → HoldsWide parts states room wide →
     IsListedIn states wide
 listed_in parts states room None holds = tt
 listed_in parts states room (Some wide) holds = holds.listed
 
-pub enough_in : (parts : List HeldPart) (states : List Tern) (room : ℕ) (wide : Option WideData) → HoldsWide parts states room wide →
+pub enough_in : (parts : List MachinePart) (states : List Tern) (room : ℕ) (wide : Option WideData) → HoldsWide parts states room wide →
     IfSome wide (λ _. length states ≤ room)
 enough_in parts states room None holds = tt
 enough_in parts states room (Some wide) holds = holds.enough
@@ -215,7 +215,7 @@ listed_turned None (Some b) old new turned count listed = absurd turned
 listed_turned (Some a) None old new turned count listed = absurd turned
 
 -- the machine can go on with them
-pub holds_turned : (parts : List HeldPart) (old new : List Tern) (room : ℕ) (a c : Option WideData) (joining : Bool) → RetouchesIn joining a c old new →
+pub holds_turned : (parts : List MachinePart) (old new : List Tern) (room : ℕ) (a c : Option WideData) (joining : Bool) → RetouchesIn joining a c old new →
     length new ≡ length old → IsListedIn new c → HoldsWide parts old room a → HoldsWide parts new room c
 holds_turned parts old new room None None joining retouches count listed holds = tt
 holds_turned parts old new room None (Some c) joining retouches count listed holds = absurd retouches
@@ -226,7 +226,7 @@ holds_turned parts old new room (Some a) (Some c) joining retouches count listed
   enough = omega (arith, holds.enough, count);
 }
 
-pub holds_placed : (placed : ℕ) (parts : List HeldPart) (old new : List Tern) (room : ℕ) (a c : Option WideData) → PlacesIn placed a c old new →
+pub holds_placed : (placed : ℕ) (parts : List MachinePart) (old new : List Tern) (room : ℕ) (a c : Option WideData) → PlacesIn placed a c old new →
     length new ≡ length old → HoldsWide parts old room a → HoldsWide parts new room c
 holds_placed placed parts old new room None None places count holds = tt
 holds_placed placed parts old new room None (Some c) places count holds = absurd places

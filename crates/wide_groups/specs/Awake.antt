@@ -2,9 +2,9 @@
 -- After Bryant, "A Switch-Level Model and Simulator for MOS Digital Systems", 1984.
 use Rattle.std.specs.Prelude.{◌≡◌, ℕ, ◌+◌, ◌≤◌, Bool, List, [], length, Contains, Option, None, Some}
 use Rattle.ternary.specs.declared.tern.Tern.{Tern}
-use Rattle.path_meaning.specs.Graphs.{nodes}
+use Rattle.switch_paths.specs.Graphs.{nodes}
 use Rattle.part_words.specs.declared.change.Change.{Change}
-use Rattle.machine_parts.specs.declared.part.HeldPart.{HeldPart}
+use Rattle.machine_parts.specs.declared.part.MachinePart.{MachinePart}
 use Rattle.vicinity.specs.NodeSets.{IsIn}
 use Rattle.vicinity.specs.LiveLists.{AreListsOf}
 use Rattle.vicinity.specs.Evaluating.{AreChanges, IsPaid}
@@ -22,13 +22,13 @@ IsListedIn state None = Unit {0}
 IsListedIn state (Some wide) = IsListed state wide
 
 -- its storage nodes are members of stale parts besides, and there is room for a change of each node
-pub record IsWideOf (parts : List HeldPart) (state : List Tern) (room : ℕ) (wide : WideData) : Type 0 where
+pub record IsWideOf (parts : List MachinePart) (state : List Tern) (room : ℕ) (wide : WideData) : Type 0 where
   pub listed : IsListed state wide
   pub stale_only : HasStaleOnly parts wide.graph
   pub enough : length state ≤ room
 
 -- the same, if they are known
-abbrev pub HoldsWide : List HeldPart → List Tern → ℕ → Option WideData → Type 0
+abbrev pub HoldsWide : List MachinePart → List Tern → ℕ → Option WideData → Type 0
 HoldsWide parts state room None = Unit {0}
 HoldsWide parts state room (Some wide) = IsWideOf parts state room wide
 

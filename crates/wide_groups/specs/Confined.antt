@@ -1,8 +1,8 @@
 -- A graph with some of another graph's storage nodes alone: all its other nodes are input nodes, and each of its switches has one of them at an end.
 use Rattle.std.specs.Prelude.{◌≡◌, ◌≢◌, ℕ, ◌<◌, ◌⊎◌, Bool, List, length, Some}
 use Rattle.strength_order.specs.declared.TheConstants.{INPUT_LEVEL}
-use Rattle.path_meaning.specs.declared.switching.Switch.{Switch}
-use Rattle.path_meaning.specs.Graphs.{GraphData, nodes, level_of, place_at}
+use Rattle.switch_paths.specs.declared.switching.Switch.{Switch}
+use Rattle.switch_paths.specs.Graphs.{GraphData, nodes, level_of, place_at}
 use Rattle.vicinity.specs.NodeSets.{IsIn}
 
 -- one of the switch's ends is in the set

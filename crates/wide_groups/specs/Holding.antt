@@ -2,7 +2,7 @@
 -- After Bryant, "A Switch-Level Model and Simulator for MOS Digital Systems", 1984.
 use Rattle.std.specs.Prelude.{◌≡◌, ℕ, Bool, List, Contains}
 use Rattle.ternary.specs.declared.tern.Tern.{Tern}
-use Rattle.path_meaning.specs.Graphs.{GraphData, IsStorage, IsWired}
+use Rattle.switch_paths.specs.Graphs.{GraphData, IsStorage, IsWired}
 use Rattle.group_meaning.specs.Groups.{Group, IsGroup}
 use Rattle.group_rest.specs.Alike.{IsAlike}
 use Rattle.vicinity.specs.Touching.{RestsAsleep}

@@ -2,11 +2,11 @@
 -- After Bryant, "A Switch-Level Model and Simulator for MOS Digital Systems", 1984.
 use Rattle.std.specs.Prelude.{◌≡◌, ℕ, Bool, List, [], length, Option, None, Some}
 use Rattle.ternary.specs.declared.tern.Tern.{Tern}
-use Rattle.path_meaning.specs.Switching.{state_at}
-use Rattle.path_meaning.specs.Graphs.{GraphData, IsStorage}
-use Rattle.path_meaning.specs.Step.{IsResponse}
+use Rattle.switch_paths.specs.Switching.{state_at}
+use Rattle.switch_paths.specs.Graphs.{GraphData, IsStorage}
+use Rattle.switch_paths.specs.Step.{IsResponse}
 use Rattle.part_words.specs.Noting.{after}
-use Rattle.machine_parts.specs.declared.part.HeldPart.{HeldPart}
+use Rattle.machine_parts.specs.declared.part.MachinePart.{MachinePart}
 use Rattle.machine_parts.specs.Parts.{HasMember, IsStale}
 use Rattle.machine_parts.specs.Stepping.{IsGiven}
 use Rattle.vicinity.specs.Touching.{IsAwake}
@@ -27,11 +27,11 @@ abbrev pub IsAwakeIn : Option WideData → List Tern → ℕ → Type 0
 IsAwakeIn wide state node = IsAwake (graph_in wide) state (touched_in wide) node
 
 -- each storage node of the graph is a member of a stale part
-abbrev pub HasStaleOnly : List HeldPart → GraphData → Type 0
+abbrev pub HasStaleOnly : List MachinePart → GraphData → Type 0
 HasStaleOnly parts g = (node : ℕ) → IsStorage g node → (k : ℕ) × HasMember parts k node × IsStale parts k
 
 -- each node that is given a value takes it, each that is awake takes its steady state, and every other node stays
-pub record MovesIn (joining : Bool) (parts : List HeldPart) (marks : List Bool) (wide : Option WideData) (old new : List Tern) : Type 0 where
+pub record MovesIn (joining : Bool) (parts : List MachinePart) (marks : List Bool) (wide : Option WideData) (old new : List Tern) : Type 0 where
   pub count : length new ≡ length old
   pub given : (node : ℕ) (value : Tern) → IsGiven parts marks old node value → state_at new node ≡ after joining (state_at old node) value
   pub awake : (node : ℕ) (value : Tern) → IsAwakeIn wide old node → IsResponse (graph_in wide) old node value →

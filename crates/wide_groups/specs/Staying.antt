@@ -1,7 +1,7 @@
 -- Groups that are stepped by vicinities, if they are known, through an edit and a build that leave them as they were.
 -- After Bryant, "A Switch-Level Model and Simulator for MOS Digital Systems", 1984.
 use Rattle.std.specs.Prelude.{◌≡◌, ℕ, ◌≤◌, ◌⊎◌, min, List, Contains, Option, None, Some}
-use Rattle.path_meaning.specs.Graphs.{IsStorage}
+use Rattle.switch_paths.specs.Graphs.{IsStorage}
 use Rattle.vicinity.specs.Wides.{WideData}
 use Rattle.vicinity.specs.Growing.{GrowsWide}
 use Rattle.wide_groups.specs.Moving.{graph_in}

@@ -1,12 +1,12 @@
 //! A graph with some of its storage nodes alone.
 ghost use Rattle.std.specs.Prelude.{◌≡◌, ◌<◌, ◌↔◌, true, length, IfOk, IfSome};
-ghost use Rattle.path_meaning.specs.Graphs.{nodes, FitsPlace};
+ghost use Rattle.switch_paths.specs.Graphs.{nodes, FitsPlace};
 ghost use Rattle.vicinity.specs.NodeSets.{IsIn};
 ghost use Rattle.wide_groups.specs.Confined.{IsConfined, ConfinesNode, ConfinesNodes, ConfinesPlace, ConfinesPlaces, HasEndIn};
 
-use path_meaning::{Graph, Switch};
 use std::alloc::Global;
 use strength_order::INPUT_LEVEL;
+use switch_paths::{Graph, Switch};
 use ternary::NoMemory;
 use vicinity::NodeSet;
 

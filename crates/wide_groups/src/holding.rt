@@ -1,11 +1,11 @@
 //! The groups that are stepped by vicinities, as they are made of a graph.
 ghost use Rattle.std.specs.Prelude.{◌≡◌, length, IfOk};
-ghost use Rattle.path_meaning.specs.Graphs.{nodes};
+ghost use Rattle.switch_paths.specs.Graphs.{nodes};
 ghost use Rattle.wide_groups.specs.Holding.{HoldsMembers};
 
 use crate::confined::confined;
-use path_meaning::{Graph, graphs_are_wired};
 use std::alloc::Global;
+use switch_paths::{Graph, graphs_are_wired};
 use ternary::{NoMemory, Tern};
 use vicinity::{NodeSet, Wide};
 

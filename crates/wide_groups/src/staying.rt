@@ -1,6 +1,6 @@
 //! The groups that are stepped by vicinities, if they are known, through an edit and a build.
 ghost use Rattle.std.specs.Prelude.{◌≡◌, ◌≤◌, ◌↔◌, true, IfOk};
-ghost use Rattle.path_meaning.specs.Graphs.{nodes};
+ghost use Rattle.switch_paths.specs.Graphs.{nodes};
 ghost use Rattle.wide_groups.specs.Moving.{graph_in};
 ghost use Rattle.wide_groups.specs.Staying.{GrowsIn, HoldsNode, HoldsAny, ForgetsWith, lowered, HoldsUpTo};
 

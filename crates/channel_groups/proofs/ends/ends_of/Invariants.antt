@@ -1,6 +1,6 @@
 -- The places so far are listed.
 use Rattle.std.proofs.Common.{◌≡◌, length}
-use Rattle.path_meaning.specs.Graphs.{nodes}
+use Rattle.switch_paths.specs.Graphs.{nodes}
 use Rattle.channel_groups.specs.Listing.{places_of, AreListedTo}
 use Rattle.channel_groups.proofs.ends.ends_of.Given as goal
 

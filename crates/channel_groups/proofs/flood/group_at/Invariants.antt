@@ -1,7 +1,7 @@
 -- The flood has looked from so many nodes, and ticked for each of them and for each place at them.
 use Rattle.std.proofs.Common.{◌+◌, ◌-◌, ◌*◌, ◌≤◌, length, take}
 use Rattle.std.specs.List.{flat_map}
-use Rattle.path_meaning.specs.Graphs.{nodes}
+use Rattle.switch_paths.specs.Graphs.{nodes}
 use Rattle.channel_groups.specs.Listing.{places_of, others_at}
 use Rattle.channel_groups.specs.Flood.{IsFlooding}
 use Rattle.channel_groups.proofs.flood.group_at.Given as goal

@@ -1,6 +1,6 @@
 -- No switch with an end at the node, one that leads to a storage node, and one that leads to an input node.
 use Rattle.std.proofs.Common.{◌≡◌, Some}
-use Rattle.path_meaning.specs.Graphs.{IsStorage}
+use Rattle.switch_paths.specs.Graphs.{IsStorage}
 use Rattle.channel_groups.proofs.FloodLemmas.{Sees-none, Sees-storage, Sees-input, only_end}
 use Rattle.channel_groups.proofs.flood.look.Goals as goal
 

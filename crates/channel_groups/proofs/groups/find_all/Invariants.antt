@@ -1,6 +1,6 @@
 -- The nodes so far were tried.
 use Rattle.std.proofs.Common.{ℕ, ◌<◌, Contains}
-use Rattle.path_meaning.specs.Graphs.{IsStorage}
+use Rattle.switch_paths.specs.Graphs.{IsStorage}
 use Rattle.channel_groups.specs.Search.{AreFound}
 use Rattle.channel_groups.proofs.groups.find_all.Given as goal
 

@@ -3,7 +3,7 @@
 use Rattle.std.proofs.Common.{◌+◌, ◌≤◌, inl, inr, length, filter, arith, ◌≡◌, ℕ, List, [], ◌++◌, Contains, sym, subst, ◌∙◌, ap}
 use Rattle.channel_groups.specs.Listing.{AreListed, places_of}
 use Rattle.channel_groups.specs.Changes.{nodes_before, nodes_after}
-use Rattle.path_meaning.specs.Graphs.{IsStorage}
+use Rattle.switch_paths.specs.Graphs.{IsStorage}
 use Rattle.std.specs.List.{sum_by}
 use Rattle.group_meaning.specs.Groups.{Group}
 use Rattle.channel_groups.specs.Grouping.{held, group_at_node}

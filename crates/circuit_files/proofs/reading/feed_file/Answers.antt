@@ -1,6 +1,6 @@
 use Rattle.std.proofs.Common.{◌+◌, ap, ◌∙◌}
 use Rattle.line_words.specs.declared.files.TheConstants.{MOST_FILE_BYTES}
-use Rattle.port_edge.proofs.TakenLemmas.{files_read}
+use Rattle.ports.proofs.TakenLemmas.{files_read}
 use Rattle.run_ends.specs.Stops.{faults_read}
 use Rattle.circuit_files.proofs.FeedingLemmas.{at_ok_of, feeds_file, started_whole, takes_none}
 use Rattle.circuit_files.proofs.reading.feed_file.Goals as goal

@@ -1,6 +1,6 @@
 -- What was read of a netlist, piece by piece, has the netlist's meaning.
 use Rattle.std.proofs.Common.{refl}
-use Rattle.port_edge.proofs.ResultLemmas.{at_ok}
+use Rattle.ports.proofs.ResultLemmas.{at_ok}
 use Rattle.sim_read.specs.Meaning.{netlist_of}
 use Rattle.sim_read.specs.Standing.{StandsFor}
 use Rattle.circuit_files.proofs.FeedingLemmas.{at_each, fed_stands, meaning-circuit, memory_no_write, read_whole, started_whole}

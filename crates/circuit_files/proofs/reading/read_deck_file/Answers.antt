@@ -1,5 +1,5 @@
 -- What was read of a deck has the deck's meaning, and was read whole.
-use Rattle.port_edge.proofs.ResultLemmas.{at_ok}
+use Rattle.ports.proofs.ResultLemmas.{at_ok}
 use Rattle.spice_read.specs.Making.{circuit_of}
 use Rattle.spice_read.proofs.ReaderLemmas.{circuit_of-front_of}
 use Rattle.circuit_files.proofs.FeedingLemmas.{at_each}

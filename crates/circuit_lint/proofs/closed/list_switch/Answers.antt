@@ -1,6 +1,6 @@
 -- No switch, one that isn't always closed, one with one node at both ends, and one with two.
 use Rattle.std.proofs.Common.{◌≡◌, true, false, ◌&&◌, ◌||◌, Some, None, nat_eq, sym, ap, ◌∙◌}
-use Rattle.path_meaning.specs.Graphs.{place_at}
+use Rattle.switch_paths.specs.Graphs.{place_at}
 use Rattle.circuit_lint.specs.Conducting.{is_always_closed}
 use Rattle.circuit_lint.specs.Closed.{is_closed_end}
 use Rattle.circuit_lint.proofs.ClosedLemmas.{closed-none, closed-once, closed-twice}

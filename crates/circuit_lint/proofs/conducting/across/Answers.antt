@@ -1,7 +1,7 @@
 -- The switch at the place is the one that is always closed, or there is none.
 use Rattle.std.proofs.Common.{◌≡◌, subst, sym, ◌∙◌}
-use Rattle.path_meaning.specs.declared.switching.Switch.{Switch}
-use Rattle.path_meaning.specs.Path.{Joins}
+use Rattle.switch_paths.specs.declared.switching.Switch.{Switch}
+use Rattle.switch_paths.specs.Path.{Joins}
 use Rattle.circuit_lint.proofs.ClosedLemmas.{some_same}
 use Rattle.circuit_lint.proofs.conducting.across.Goals as goal
 

@@ -1,8 +1,8 @@
 -- No switch, one that isn't dead, and one that is counted with those that are alike.
 use Rattle.std.proofs.Common.{◌≡◌, ◌+◌, true, false, ◌&&◌, Some, None, unwrap_or, sym, ap, subst, ◌∙◌, arith, rules}
 use Rattle.indexmap.specs.IndexMap.{Updates}
-use Rattle.path_meaning.specs.declared.switching.Switch.{Switch}
-use Rattle.path_meaning.specs.Graphs.{place_at}
+use Rattle.switch_paths.specs.declared.switching.Switch.{Switch}
+use Rattle.switch_paths.specs.Graphs.{place_at}
 use Rattle.circuit_lint.specs.Dead.{is_dead, likeness, same_switch, is_dead_like}
 use Rattle.circuit_lint.specs.Tallies.{count_at}
 use Rattle.circuit_lint.proofs.TallyLemmas.{tally_within, tallied-not, tallied-dead}

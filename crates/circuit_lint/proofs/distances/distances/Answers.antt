@@ -1,7 +1,7 @@
 -- The search goes on to the next node, until it has reached all.
 use Rattle.std.proofs.Common.{◌≡◌, ℕ, List, ◌<◌, length, Contains, subst, sym, ap, ◌∙◌, arith}
 use Rattle.std.specs.Prelude.{slice_index}
-use Rattle.path_meaning.specs.Graphs.{nodes, IsStorage}
+use Rattle.switch_paths.specs.Graphs.{nodes, IsStorage}
 use Rattle.circuit_lint.specs.Conducting.{IsClosedAcross}
 use Rattle.circuit_lint.specs.Closed.{list_at}
 use Rattle.circuit_lint.proofs.ClosedLemmas.{closed_inside, closed_whole}

@@ -1,6 +1,6 @@
 -- The search has reached so many of the found nodes.
 use Rattle.std.proofs.Common.{◌≤◌, ◌-◌, length}
-use Rattle.path_meaning.specs.Graphs.{nodes}
+use Rattle.switch_paths.specs.Graphs.{nodes}
 use Rattle.circuit_lint.specs.Distances.{IsSearched, HasSpread}
 use Rattle.circuit_lint.proofs.distances.distances.Given as goal
 

@@ -1,7 +1,7 @@
 -- Gnd alone was found.
 use Rattle.std.proofs.Common.{◌≡◌, ℕ, [], ◌∷◌, ◌++◌, Some, Option, List, set, ap, ◌∙◌}
-use Rattle.path_meaning.specs.declared.TheConstants.{GND}
-use Rattle.path_meaning.specs.Graphs.{nodes}
+use Rattle.switch_paths.specs.declared.TheConstants.{GND}
+use Rattle.switch_paths.specs.Graphs.{nodes}
 use Rattle.circuit_lint.proofs.SearchLemmas.{unfound, IsSearched-first}
 use Rattle.circuit_lint.proofs.distances.from_gnd.Goals as goal
 

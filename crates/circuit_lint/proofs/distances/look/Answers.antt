@@ -2,7 +2,7 @@
 use Rattle.std.proofs.Common.{◌≡◌, ℕ, List, sym, subst, ap, ◌∙◌}
 use Rattle.std.specs.Prelude.{slice_index}
 use Rattle.circuit_lint.specs.Conducting.{IsClosedAcross}
-use Rattle.path_meaning.specs.Graphs.{IsStorage}
+use Rattle.switch_paths.specs.Graphs.{IsStorage}
 use Rattle.circuit_lint.specs.Distances.{IsFound}
 use Rattle.circuit_lint.proofs.ClosedLemmas.{some_same}
 use Rattle.circuit_lint.proofs.SearchLemmas.{Keeps-none}

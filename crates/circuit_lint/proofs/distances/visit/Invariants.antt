@@ -1,7 +1,7 @@
 -- The places so far were looked at.
 use Rattle.std.proofs.Common.{ℕ, take, Contains}
 use Rattle.std.specs.Prelude.{slice_index}
-use Rattle.path_meaning.specs.Graphs.{IsStorage}
+use Rattle.switch_paths.specs.Graphs.{IsStorage}
 use Rattle.circuit_lint.specs.Conducting.{IsClosedAcross}
 use Rattle.circuit_lint.specs.Distances.{IsSearched, Keeps, IsFound}
 use Rattle.circuit_lint.proofs.distances.visit.Given as goal

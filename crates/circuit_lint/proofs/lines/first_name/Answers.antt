@@ -1,6 +1,6 @@
 -- Names are those of nodes of the graph.
 use Rattle.std.proofs.Common.{◌≤◌, sym}
-use Rattle.path_meaning.specs.Graphs.{nodes}
+use Rattle.switch_paths.specs.Graphs.{nodes}
 use Rattle.circuit_lint.proofs.NameLemmas.{called-past}
 use Rattle.circuit_lint.proofs.lines.first_name.Goals as goal
 

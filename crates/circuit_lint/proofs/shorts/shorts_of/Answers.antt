@@ -2,8 +2,8 @@
 use Rattle.std.proofs.Common.{◌≡◌, ℕ, List, ◌+◌, ◌<◌, Contains, get_or, take, ap, ◌∙◌, sym, subst, arith}
 use Rattle.std.proofs.lemmas.List.{take_all, map_push}
 use Rattle.std.proofs.lemmas.List.Elements.{Contains-get_or}
-use Rattle.path_meaning.specs.declared.TheConstants.{VDD}
-use Rattle.path_meaning.specs.Graphs.{nodes}
+use Rattle.switch_paths.specs.declared.TheConstants.{VDD}
+use Rattle.switch_paths.specs.Graphs.{nodes}
 use Rattle.circuit_lint.specs.Closed.{AreClosed}
 use Rattle.circuit_lint.specs.Ways.{lists_of, AreWays}
 use Rattle.circuit_lint.proofs.ClosedLemmas.{closed_inside, closed_whole}

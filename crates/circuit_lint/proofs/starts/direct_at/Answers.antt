@@ -1,5 +1,5 @@
 -- No switch leads on from Vdd there.
-use Rattle.path_meaning.specs.declared.TheConstants.{GND}
+use Rattle.switch_paths.specs.declared.TheConstants.{GND}
 use Rattle.circuit_lint.proofs.starts.direct_at.Goals as goal
 
 pub returns-in_err-node-clause-all : goal.returns-in_err-node-clause-all

@@ -1,6 +1,6 @@
 -- The places so far between the rails are listed.
 use Rattle.std.proofs.Common.{ℕ, take, Contains}
-use Rattle.path_meaning.specs.declared.TheConstants.{GND, VDD}
+use Rattle.switch_paths.specs.declared.TheConstants.{GND, VDD}
 use Rattle.circuit_lint.specs.Conducting.{IsClosedAcross}
 use Rattle.circuit_lint.proofs.starts.direct_starts.Given as goal
 

@@ -1,6 +1,6 @@
 -- No name was noted yet.
 use Rattle.std.proofs.Common.{ℕ, None, replicate, ap, ◌∙◌}
-use Rattle.path_meaning.specs.Graphs.{nodes}
+use Rattle.switch_paths.specs.Graphs.{nodes}
 use Rattle.circuit_lint.proofs.TableLemmas.{supplies-none}
 use Rattle.circuit_lint.proofs.supplies.first_supplies.Goals as goal
 

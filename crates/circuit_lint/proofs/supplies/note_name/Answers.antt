@@ -1,6 +1,6 @@
 -- The name is that of a supply, for the node that it stands for, or it is another.
 use Rattle.std.proofs.Common.{◌<◌, sym, ◌∙◌, arith}
-use Rattle.path_meaning.specs.Graphs.{nodes}
+use Rattle.switch_paths.specs.Graphs.{nodes}
 use Rattle.circuit_lint.proofs.TableLemmas.{named_inside, supplies-other, supplies-named}
 use Rattle.circuit_lint.proofs.supplies.note_name.Goals as goal
 

@@ -1,5 +1,5 @@
 use Rattle.std.proofs.Common.{◌≡◌, ◌+◌, [], false, cond, length}
-use Rattle.port_edge.specs.Sending.{Sends}
+use Rattle.ports.specs.Sending.{Sends}
 use Rattle.linear_code.specs.ListingText.{listing_text}
 use Rattle.linear_code.specs.TextPlaces.{IsPlace, text_from}
 use Rattle.circuit_reports.proofs.compile.send_listing.Given as goal

@@ -1,8 +1,8 @@
 -- The piece is what lies between the two places.
 use Rattle.std.proofs.Common.{subst}
-use Rattle.port_edge.proofs.ResultLemmas.{at_err}
-use Rattle.port_edge.proofs.SendingLemmas.{part_none}
-use Rattle.port_edge.specs.Sending.{WritesPart}
+use Rattle.ports.proofs.ResultLemmas.{at_err}
+use Rattle.ports.proofs.SendingLemmas.{part_none}
+use Rattle.ports.specs.Sending.{WritesPart}
 use Rattle.linear_code.specs.TextPlaces.{text_from}
 use Rattle.circuit_reports.proofs.PieceLemmas.{part_piece}
 use Rattle.circuit_reports.proofs.compile.send_some.Goals as goal

@@ -1,6 +1,6 @@
 -- Where the sink stops, a part of the refusal's line was written.
 use Rattle.std.proofs.Common.{inr, refl, subst, ◌∙◌}
-use Rattle.port_edge.specs.Sending.{WritesPart}
+use Rattle.ports.specs.Sending.{WritesPart}
 use Rattle.spice_cards.specs.Reports.{deck_line_of}
 use Rattle.run_ends.specs.declared.status.Status.TheVariants as status
 use Rattle.run_ends.specs.Answers.{plain_answer}

@@ -3,7 +3,7 @@ use Rattle.std.proofs.Common.{◌≡◌, ℕ, ◌+◌, ◌<◌, List, All, [], �
 use Rattle.std.specs.List.{flat_map}
 use Rattle.std.specs.List.Sorted.{IsPermutation}
 use Rattle.std.proofs.lemmas.Slice.Zip.{all_zipped_more}
-use Rattle.path_meaning.specs.Graphs.{place_at}
+use Rattle.switch_paths.specs.Graphs.{place_at}
 use Rattle.group_meaning.specs.Groups.{IsGroup}
 use Rattle.channel_groups.proofs.HeldLemmas.{IsGroup-found}
 use Rattle.group_text.specs.Texts.{firsts}

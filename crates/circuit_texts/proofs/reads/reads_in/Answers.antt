@@ -2,7 +2,7 @@
 use Rattle.std.proofs.Common.{ℕ, [], get_or, take, sym, ap, arith, ◌∙◌}
 use Rattle.std.specs.List.{flat_map}
 use Rattle.std.proofs.lemmas.List.{flat_map_more, take_more}
-use Rattle.path_meaning.specs.Graphs.{place_at}
+use Rattle.switch_paths.specs.Graphs.{place_at}
 use Rattle.circuit_texts.specs.Reading.{reads_at}
 use Rattle.circuit_texts.proofs.reads.reads_in.Goals as goal
 

@@ -1,7 +1,7 @@
 -- The list has the nodes that the switches so far read.
 use Rattle.std.proofs.Common.{◌≡◌, take}
 use Rattle.std.specs.List.{flat_map}
-use Rattle.path_meaning.specs.Graphs.{place_at}
+use Rattle.switch_paths.specs.Graphs.{place_at}
 use Rattle.circuit_texts.specs.Reading.{reads_at}
 use Rattle.circuit_texts.proofs.reads.reads_in.Given as goal
 

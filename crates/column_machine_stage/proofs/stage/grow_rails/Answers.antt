@@ -1,10 +1,10 @@
 use Rattle.std.proofs.Common.{◌≡◌, ℕ, ◌-◌, ◌≤◌, List, [], ◌∷◌, ◌++◌, length, replicate, refl, ap, subst, arith, length-append}
 use Rattle.ternary.specs.declared.tern.Tern.{Tern}
 use Rattle.ternary.specs.declared.tern.Tern.TheVariants.{Unk}
-use Rattle.batch_words.specs.Lanes.{HasLane}
-use Rattle.batch_words.proofs.RunLemmas.{high_counted}
+use Rattle.word_columns.specs.Columns.{AreRailsIn}
+use Rattle.word_columns.proofs.RunLemmas.{high_counted}
 use Rattle.machine_parts.proofs.EditingLemmas.{grown-more}
-use Rattle.column_machine_stage.proofs.ColumnLemmas.{HasLane-push, HasValue-unknown}
+use Rattle.column_machine_stage.proofs.ColumnLemmas.{AreRailsIn-push, HasValue-unknown}
 use Rattle.column_machine_stage.proofs.stage.grow_rails.Goals as goal
 
 pub loop-node-preserved : goal.loop-node-preserved
@@ -13,15 +13,15 @@ loop-node-preserved c =
     let rails = c.loop-node.rails in
     let node = c.loop-node._node in
     record {
-      has = λ lane state inside has.
-          let counted : length old.hi.items ≡ length state = high_counted lane old.hi.items old.lo.items state has in
+      has = λ column state inside has.
+          let counted : length old.hi.items ≡ length state = high_counted column old.hi.items old.lo.items state has in
           let low : length state ≤ node = omega arith in
           let here : List Tern = state ++ replicate (node - length state) Unk in
           rw (c.push_words.ensures.hi, c.push_words.ensures.lo)
-          (subst (HasLane lane (rails.hi.items ++ 18446744073709551615 ∷ []) (rails.lo.items ++ 18446744073709551615 ∷ []))
+          (subst (AreRailsIn column (rails.hi.items ++ 18446744073709551615 ∷ []) (rails.lo.items ++ 18446744073709551615 ∷ []))
           (grown-more state here (here ++ Unk ∷ []) node low refl refl)
-          (HasLane-push lane rails.hi.items rails.lo.items here Unk (record { hi = 18446744073709551615; lo = 18446744073709551615 })
-          (c.loop-node.invariant.has lane state inside has) (HasValue-unknown lane inside)));
+          (AreRailsIn-push column rails.hi.items rails.lo.items here Unk (record { hi = 18446744073709551615; lo = 18446744073709551615 })
+          (c.loop-node.invariant.has column state inside has) (HasValue-unknown column inside)));
       high = omega (arith, ap length c.push_words.ensures.hi, length-append {A = ℕ});
       low = omega (arith, ap length c.push_words.ensures.lo, length-append {A = ℕ});
       from = omega arith;
@@ -29,8 +29,8 @@ loop-node-preserved c =
     }
 
 pub returns : goal.returns
-returns c = λ lane state inside has.
+returns c = λ column state inside has.
     let old = c.args.rails.now in
-    let counted : length old.hi.items ≡ length state = high_counted lane old.hi.items old.lo.items state has in
+    let counted : length old.hi.items ≡ length state = high_counted column old.hi.items old.lo.items state has in
     let all : c.loop-node._node - length state ≡ c.args.nodes - length state = omega arith in
-    rw all at (c.loop-node.invariant.has lane state inside has)
+    rw all at (c.loop-node.invariant.has column state inside has)

@@ -2,13 +2,13 @@
 use Rattle.std.proofs.Common.{ℕ, ◌+◌, ◌-◌, ◌<◌, ◌≤◌, ◌++◌, List, length, replicate, vec_len, vec_capacity}
 use Rattle.ternary.specs.declared.tern.Tern.{Tern}
 use Rattle.ternary.specs.declared.tern.Tern.TheVariants.{Unk}
-use Rattle.batch_words.specs.Lanes.{HasLane}
+use Rattle.word_columns.specs.Columns.{AreRailsIn}
 use Rattle.column_machine_stage.proofs.stage.grow_rails.Given as goal
 
 abbrev pub invariant-loop-node : goal.invariant-loop-node
 invariant-loop-node l = record {
-  has : (lane : ℕ) (state : List Tern) → lane < 64 → HasLane lane l.initial.rails.hi.items l.initial.rails.lo.items state →
-      HasLane lane l.rails.hi.items l.rails.lo.items (state ++ replicate (l._node - length state) Unk);
+  has : (column : ℕ) (state : List Tern) → column < 64 → AreRailsIn column l.initial.rails.hi.items l.initial.rails.lo.items state →
+      AreRailsIn column l.rails.hi.items l.rails.lo.items (state ++ replicate (l._node - length state) Unk);
   high : vec_len l.rails.hi + (l.nodes - l._node) ≤ vec_capacity l.rails.hi;
   low : vec_len l.rails.lo + (l.nodes - l._node) ≤ vec_capacity l.rails.lo;
   from : vec_len l.initial.rails.hi ≤ l._node;

@@ -1,7 +1,7 @@
 -- What was told of the circuit that was read, or of its refusal, is told of the netlist.
 use Rattle.std.proofs.Common.{Ok, Err, ap, inl, inr, ◌∙◌}
-use Rattle.port_edge.proofs.ResultLemmas.{at_ok}
-use Rattle.port_edge.proofs.TakenLemmas.{files_both}
+use Rattle.ports.proofs.ResultLemmas.{at_ok}
+use Rattle.ports.proofs.TakenLemmas.{files_both}
 use Rattle.sim_read.specs.Meaning.{netlist_of}
 use Rattle.run_ends.specs.Answers.{Answer}
 use Rattle.run_ends.specs.Stops.{faults_read}

@@ -1,8 +1,8 @@
 -- The list is read after the script, and what was told of what was read is told of both files.
 use Rattle.std.proofs.Common.{inr, ap, ◌∙◌}
-use Rattle.port_edge.specs.Ports.{with_name}
-use Rattle.port_edge.proofs.ResultLemmas.{at_ok}
-use Rattle.port_edge.proofs.TakenLemmas.{files_both}
+use Rattle.ports.specs.Ports.{with_name}
+use Rattle.ports.proofs.ResultLemmas.{at_ok}
+use Rattle.ports.proofs.TakenLemmas.{files_both}
 use Rattle.run_ends.proofs.EndLemmas.{read_none}
 use Rattle.cosmos_app.proofs.FaultLemmas.{told_judged, starts_late, whole_two}
 use Rattle.cosmos_app.proofs.faults.judge_list.Goals as goal

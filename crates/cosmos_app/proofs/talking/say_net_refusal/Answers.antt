@@ -1,6 +1,6 @@
 -- What was written to an empty sink is said.
 use Rattle.std.proofs.Common.{ap}
-use Rattle.port_edge.specs.HonestPorts.{HonestSinkData}
+use Rattle.ports.specs.HonestPorts.{HonestSinkData}
 use Rattle.circuit_reports.specs.Answers.{IsNetRefusal}
 use Rattle.cosmos_app.proofs.TalkLemmas.{said_refusal}
 use Rattle.cosmos_app.proofs.talking.say_net_refusal.Goals as goal

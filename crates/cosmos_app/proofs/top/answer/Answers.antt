@@ -1,7 +1,7 @@
 -- What was told of the case of the request is told of the request; if no file is needed, none is started or read.
 use Rattle.std.proofs.Common.{◌+◌, sym, ap, ◌∙◌}
-use Rattle.port_edge.proofs.ResultLemmas.{at_known, at_ok}
-use Rattle.port_edge.proofs.TakenLemmas.{files_none}
+use Rattle.ports.proofs.ResultLemmas.{at_known, at_ok}
+use Rattle.ports.proofs.TakenLemmas.{files_none}
 use Rattle.line_words.specs.declared.files.TheConstants.{MOST_FILE_BYTES}
 use Rattle.run_ends.proofs.EndLemmas.{read_none, untouched_none}
 use Rattle.command_line.specs.Requests.{alone_seen, names_of, request_of, request_seen}

@@ -1,7 +1,7 @@
 -- What was told of the case of the question is told of the question; what is told of the circuit alone starts and reads no further file.
 use Rattle.std.proofs.Common.{◌+◌, refl}
-use Rattle.port_edge.proofs.ResultLemmas.{at_known, at_ok}
-use Rattle.port_edge.proofs.TakenLemmas.{files_none}
+use Rattle.ports.proofs.ResultLemmas.{at_known, at_ok}
+use Rattle.ports.proofs.TakenLemmas.{files_none}
 use Rattle.line_words.specs.declared.files.TheConstants.{MOST_FILE_BYTES}
 use Rattle.run_ends.proofs.EndLemmas.{read_none, untouched_none}
 use Rattle.cosmos_app.proofs.AskedLemmas.{told_question, starts_question, whole_question, starts_reported, scripts_reported}

@@ -1,6 +1,6 @@
 -- What was told of the text that was read is told of the script.
 use Rattle.std.proofs.Common.{◌∙◌}
-use Rattle.port_edge.proofs.ResultLemmas.{at_ok}
+use Rattle.ports.proofs.ResultLemmas.{at_ok}
 use Rattle.run_ends.proofs.EndLemmas.{read_none, untouched_none}
 use Rattle.cosmos_app.proofs.PurposeLemmas.{told_run_for}
 use Rattle.circuit_files.proofs.WholeLemmas.{whole_file}

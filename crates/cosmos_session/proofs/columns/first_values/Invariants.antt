@@ -1,5 +1,5 @@
 use Rattle.std.proofs.Common.{◌≡◌, ◌++◌, drop, map}
-use Rattle.lane_script.specs.Commands.{alone_of, value_in}
+use Rattle.column_script.specs.Commands.{alone_of, value_in}
 use Rattle.cosmos_session.proofs.columns.first_values.Given as goal
 
 abbrev pub invariant-loop-name : goal.invariant-loop-name

@@ -3,8 +3,8 @@ use Rattle.std.proofs.Common.{◌≡◌, ℕ, ◌<◌, ◌≤◌, List, length, 
 use Rattle.std.specs.Prelude.{unwrap_or}
 use Rattle.std.proofs.lemmas.List.{drop_all}
 use Rattle.ternary.specs.declared.tern.Tern.{Tern}
-use Rattle.path_meaning.specs.declared.TheConstants.{RAILS}
-use Rattle.path_meaning.specs.Graphs.{nodes}
+use Rattle.switch_paths.specs.declared.TheConstants.{RAILS}
+use Rattle.switch_paths.specs.Graphs.{nodes}
 use Rattle.netlist.specs.Names.{node_of}
 use Rattle.netlist.specs.Circuits.{CircuitData}
 use Rattle.netlist.specs.Edits.{node_named}
@@ -20,7 +20,7 @@ node_found c name text found node same is there =
 
 pub loop-name-init : goal.loop-name-init
 loop-name-init g c = record {
-  lanes = refl;
+  columns = refl;
   sound = c.requires.sound;
   last = refl;
   serves = λ kept serving. serving;
@@ -51,7 +51,7 @@ place_node-requires-clause-no_rail g c =
 
 pub place_node-requires-clause-letters : goal.place_node-requires-clause-letters
 place_node-requires-clause-letters g c =
-    rw (c.items-in-loop-name.ensures, c.loop-name-item.is, c.loop-name.invariant.lanes)
+    rw (c.items-in-loop-name.ensures, c.loop-name-item.is, c.loop-name.invariant.columns)
     (c.requires.fit c.loop-name.name-index c.loop-name-item.result (omega arith))
 
 pub loop-name-preserved : goal.loop-name-preserved
@@ -69,7 +69,7 @@ loop-name-preserved g c =
     let did : g.M.Stage.did (Placed circuit.graph (node_named circuit item.0) item.1) c.loop-name.stage c.place_node.new.stage =
     subst (λ (n : ℕ). g.M.Stage.did (Placed circuit.graph n item.1) c.loop-name.stage c.place_node.new.stage) (sym named) placed in
     record {
-      lanes = c.place_node.ensures.lanes ∙ c.loop-name.invariant.lanes;
+      columns = c.place_node.ensures.columns ∙ c.loop-name.invariant.columns;
       sound = rw c.graph.ensures.value at c.place_node.ensures.sound;
       last = c.place_node.ensures.last ∙ c.loop-name.invariant.last;
       serves = λ kept serving. (rw c.graph.ensures.value at c.place_node.ensures.serves) kept (c.loop-name.invariant.serves kept serving);

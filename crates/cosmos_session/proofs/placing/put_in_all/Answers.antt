@@ -8,9 +8,10 @@ pub place-requires-clause-letters : goal.place-requires-clause-letters
 place-requires-clause-letters g c = inl refl
 
 pub returns-clause-state : goal.returns-clause-state
-returns-clause-state g c = c.place.ensures.states 0 (first_of_some (g.M.Stage.lanes c.args.stage.now) c.requires.some)
+returns-clause-state g c = c.place.ensures.states 0 (first_of_some (g.M.Stage.columns c.args.stage.now) c.requires.some)
 
 pub returns-clause-sound : goal.returns-clause-sound
-returns-clause-sound g c = λ lane inside.
-    let within : lane < g.M.Stage.lanes c.args.stage.now = subst (λ (n : ℕ). lane < n) c.place.ensures.lanes inside in
-    sound_put c.args.graph.now c.args.node c.args.letter _ _ c.requires.no_rail (c.place.ensures.states lane within) (c.requires.sound lane within)
+returns-clause-sound g c = λ column inside.
+    let within : column < g.M.Stage.columns c.args.stage.now = subst (λ (n : ℕ). column < n) c.place.ensures.columns inside in
+    sound_put c.args.graph.now c.args.node c.args.letter _ _ c.requires.no_rail (c.place.ensures.states column within)
+    (c.requires.sound column within)

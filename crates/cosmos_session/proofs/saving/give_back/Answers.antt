@@ -3,7 +3,7 @@ use Rattle.std.specs.Prelude.{slice_set}
 use Rattle.std.proofs.lemmas.List.{get_or_default}
 use Rattle.ternary.specs.declared.tern.Tern.{Tern}
 use Rattle.ternary.specs.declared.tern.Tern.TheVariants.{Zero}
-use Rattle.path_meaning.specs.Switching.{state_at}
+use Rattle.switch_paths.specs.Switching.{state_at}
 use Rattle.column_stage.proofs.LeadingLemmas.{leads_by_none}
 use Rattle.session_meaning.specs.Saves.{back_to}
 use Rattle.session_meaning.specs.Stages.{GivesOther, PlacesOther}

@@ -9,7 +9,7 @@ use Rattle.cosmos_session.proofs.saving.give_back.Given as goal
 
 abbrev pub invariant-loop-node : goal.invariant-loop-node
 invariant-loop-node g l = record {
-  one : g.M.Stage.lanes l.stage ≡ 1;
+  one : g.M.Stage.columns l.stage ≡ 1;
   state : g.M.Stage.states l.stage 0 ≡ take l.node l.kept ++ drop l.node (g.M.Stage.states l.fn.stage 0);
   sound : IsSoundState l.graph (g.M.Stage.states l.stage 0);
   last : g.M.Stage.last l.stage ≡ g.M.Stage.last l.fn.stage;

@@ -1,5 +1,5 @@
 use Rattle.std.proofs.Common.{◌≡◌, ◌<◌, ◌≤◌, All, ◌+◌, ◌-◌, ◌++◌, map, drop, length, vec_len, vec_capacity}
-use Rattle.path_meaning.specs.Graphs.{nodes}
+use Rattle.switch_paths.specs.Graphs.{nodes}
 use Rattle.session_meaning.specs.Sessions.{ClockData}
 use Rattle.session_meaning.specs.Effects.{clock_of}
 use Rattle.cosmos_session.proofs.setting.named_clocks.Given as goal

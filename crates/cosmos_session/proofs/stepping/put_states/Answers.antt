@@ -1,6 +1,6 @@
 use Rattle.std.proofs.Common.{◌<◌, ◌≤◌, ◌∷◌, [], ℕ, List, length, refl, sym, subst, ◌∙◌, arith}
 use Rattle.std.proofs.lemmas.List.{drop_all}
-use Rattle.path_meaning.specs.Switching.{state_at}
+use Rattle.switch_paths.specs.Switching.{state_at}
 use Rattle.column_stage.specs.Acts.{Act, Leads, Placed}
 use Rattle.column_stage.proofs.LeadingLemmas.{acts_next}
 use Rattle.session_meaning.specs.Sessions.{ClockData}
@@ -10,7 +10,7 @@ use Rattle.cosmos_session.proofs.stepping.put_states.Goals as goal
 
 pub loop-clock-init : goal.loop-clock-init
 loop-clock-init g c = record {
-  lanes = refl;
+  columns = refl;
   state = refl;
   sound = c.requires.sound;
   last = refl;
@@ -20,7 +20,7 @@ loop-clock-init g c = record {
 }
 
 pub put_state-requires-clause-some : goal.put_state-requires-clause-some
-put_state-requires-clause-some g c = subst (λ (n : ℕ). 1 ≤ n) (sym c.loop-clock.invariant.lanes) c.requires.some
+put_state-requires-clause-some g c = subst (λ (n : ℕ). 1 ≤ n) (sym c.loop-clock.invariant.columns) c.requires.some
 
 pub loop-clock-preserved : goal.loop-clock-preserved
 loop-clock-preserved g c =
@@ -31,7 +31,7 @@ loop-clock-preserved g c =
     let place = c.args.place in
     let inside : k < length clocks = omega arith in
     record {
-      lanes = c.put_state.ensures.lanes ∙ c.loop-clock.invariant.lanes;
+      columns = c.put_state.ensures.columns ∙ c.loop-clock.invariant.columns;
       state = states_with-more clocks k place clock (g.M.Stage.states c.loop-clock.stage 0) (g.M.Stage.states c.put_state.new.stage 0) inside c.clock-item.is
           c.put_state.ensures.state ∙ c.loop-clock.invariant.state;
       sound = c.put_state.ensures.sound;

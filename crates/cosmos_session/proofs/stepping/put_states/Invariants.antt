@@ -9,9 +9,9 @@ use Rattle.cosmos_session.proofs.stepping.put_states.Given as goal
 
 abbrev pub invariant-loop-clock : goal.invariant-loop-clock
 invariant-loop-clock g l = record {
-  lanes : g.M.Stage.lanes l.stage ≡ g.M.Stage.lanes l.fn.stage;
+  columns : g.M.Stage.columns l.stage ≡ g.M.Stage.columns l.fn.stage;
   state : states_with (drop l.clock-index l.clocks) l.place (g.M.Stage.states l.stage 0) ≡ states_with l.clocks l.place (g.M.Stage.states l.fn.stage 0);
-  sound : AreSound l.graph (g.M.Stage.lanes l.stage) (g.M.Stage.states l.stage);
+  sound : AreSound l.graph (g.M.Stage.columns l.stage) (g.M.Stage.states l.stage);
   last : g.M.Stage.last l.stage ≡ g.M.Stage.last l.fn.stage;
   serves : (kept : List GroupTextData) → g.M.Stage.serves l.fn.stage l.graph kept → g.M.Stage.serves l.stage l.graph kept;
   fits : g.M.Stage.fits l.fn.stage l.graph → g.M.Stage.fits l.stage l.graph;

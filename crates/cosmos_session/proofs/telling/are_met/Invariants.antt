@@ -1,6 +1,6 @@
 use Rattle.std.proofs.Common.{◌≡◌, ℕ, drop}
 use Rattle.std.specs.List.{list_all}
-use Rattle.path_meaning.specs.Switching.{state_at}
+use Rattle.switch_paths.specs.Switching.{state_at}
 use Rattle.vector_values.specs.Values.{Letter}
 use Rattle.session_meaning.specs.Effects.{is_met}
 use Rattle.cosmos_session.proofs.telling.are_met.Given as goal

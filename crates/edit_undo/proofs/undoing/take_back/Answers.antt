@@ -2,7 +2,7 @@
 use Rattle.std.proofs.Common.{sym, ap, subst, ◌∙◌}
 use Rattle.std.specs.Prelude.{All}
 use Rattle.strength_order.specs.Levels.{IsLevel}
-use Rattle.path_meaning.specs.Graphs.{GraphData, nodes, FitsPlace}
+use Rattle.switch_paths.specs.Graphs.{GraphData, nodes, FitsPlace}
 use Rattle.channel_groups.specs.Changes.{with_place, with_level}
 use Rattle.edit_undo.proofs.UndoingLemmas.{undo_is, undo_nodes, all_levels, old_place_fits, old_level_is}
 use Rattle.edit_undo.proofs.undoing.take_back.Goals as goal

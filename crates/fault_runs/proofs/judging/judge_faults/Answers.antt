@@ -1,6 +1,6 @@
 -- The faults that were read are those of the list; if the list is refused its line is the answer.
 use Rattle.std.proofs.Common.{sym, ap, subst, ◌∙◌}
-use Rattle.wave_print.specs.declared.faults.FaultPlace.TheVariants as place
+use Rattle.printed_lines.specs.declared.faults.FaultPlace.TheVariants as place
 use Rattle.run_ends.specs.declared.status.Status.TheVariants as status
 use Rattle.run_ends.specs.Answers.{Answer, IsRefusal}
 use Rattle.run_ends.specs.Ends.{IsToldBy}

@@ -1,7 +1,7 @@
 -- Where there is no room for the line nothing is written.
-use Rattle.port_edge.proofs.ResultLemmas.{at_err}
-use Rattle.port_edge.proofs.SendingLemmas.{part_none}
-use Rattle.wave_print.specs.Verdicts.{faults_line_of}
+use Rattle.ports.proofs.ResultLemmas.{at_err}
+use Rattle.ports.proofs.SendingLemmas.{part_none}
+use Rattle.printed_lines.specs.Verdicts.{faults_line_of}
 use Rattle.fault_runs.proofs.judging.send_counts.Goals as goal
 
 pub returns-in_err-reserve-clause-part : goal.returns-in_err-reserve-clause-part

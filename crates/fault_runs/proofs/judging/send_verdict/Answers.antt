@@ -1,6 +1,6 @@
 -- Where the line isn't made nothing is written.
-use Rattle.port_edge.proofs.ResultLemmas.{at_err}
-use Rattle.port_edge.proofs.SendingLemmas.{part_none}
+use Rattle.ports.proofs.ResultLemmas.{at_err}
+use Rattle.ports.proofs.SendingLemmas.{part_none}
 use Rattle.fault_meaning.specs.Judging.{verdict_line}
 use Rattle.fault_runs.proofs.judging.send_verdict.Goals as goal
 

@@ -1,6 +1,6 @@
 -- What is left to be named follows what is in the line.
 use Rattle.std.proofs.Common.{◌≡◌, ◌++◌, drop, map}
-use Rattle.wave_print.specs.Lines.{names_after}
+use Rattle.printed_lines.specs.Lines.{names_after}
 use Rattle.netlist.specs.Circuits.{called}
 use Rattle.group_report.proofs.report.append_names.Given as goal
 

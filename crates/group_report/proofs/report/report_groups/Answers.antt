@@ -1,5 +1,5 @@
 -- If there was no memory for the groups, nothing was written of the report that there is.
-use Rattle.port_edge.proofs.SendingLemmas.{part_none}
+use Rattle.ports.proofs.SendingLemmas.{part_none}
 use Rattle.group_report.proofs.ReportLemmas.{report_exists}
 use Rattle.group_report.proofs.report.report_groups.Goals as goal
 

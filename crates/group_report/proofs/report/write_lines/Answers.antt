@@ -1,7 +1,7 @@
 -- Each line that is sent takes the report one group on; at each exit what was sent is a part of it.
 use Rattle.std.proofs.Common.{◌≡◌, ℕ, ◌+◌, List, drop, Result, Ok, Err, OnOk, is_ok, true, true≢false, subst, ◌∙◌}
-use Rattle.port_edge.proofs.ResultLemmas.{at_err}
-use Rattle.port_edge.proofs.SendingLemmas.{part_none, sends_more, sends_part}
+use Rattle.ports.proofs.ResultLemmas.{at_err}
+use Rattle.ports.proofs.SendingLemmas.{part_none, sends_more, sends_part}
 use Rattle.netlist.specs.Circuits.{CircuitData}
 use Rattle.group_report.specs.Report.{lines_from, lines_of}
 use Rattle.group_meaning.specs.Groups.{Group, IsGroup}

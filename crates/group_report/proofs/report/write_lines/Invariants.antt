@@ -1,6 +1,6 @@
 -- The lines of the groups that were passed are written, and of their texts the numbers are noted.
 use Rattle.std.proofs.Common.{◌≡◌, ◌+◌, drop, take}
-use Rattle.port_edge.specs.Sending.{Sends}
+use Rattle.ports.specs.Sending.{Sends}
 use Rattle.group_report.specs.Report.{lines_from, lines_of}
 use Rattle.group_report.specs.Noted.{AreNoted}
 use Rattle.group_report.proofs.report.write_lines.Given as goal

@@ -1,7 +1,7 @@
 -- The switches so far stand between the local nodes.
 use Rattle.std.proofs.Common.{◌≡◌, map, take}
 use Rattle.std.specs.Prelude.{option_map}
-use Rattle.path_meaning.specs.Graphs.{place_at}
+use Rattle.switch_paths.specs.Graphs.{place_at}
 use Rattle.group_text.specs.Texts.{local_switch}
 use Rattle.group_text.proofs.local.add_switches.Given as goal
 

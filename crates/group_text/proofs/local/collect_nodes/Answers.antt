@@ -1,6 +1,6 @@
 -- One member more, and the terminals of one switch more.
 use Rattle.std.proofs.Common.{ℕ, arith}
-use Rattle.path_meaning.specs.Graphs.{place_at}
+use Rattle.switch_paths.specs.Graphs.{place_at}
 use Rattle.group_text.specs.Texts.{terminals_of}
 use Rattle.group_text.proofs.FirstsLemmas.{firsts_more, firsts_more_pieces}
 use Rattle.group_text.proofs.local.collect_nodes.Goals as goal

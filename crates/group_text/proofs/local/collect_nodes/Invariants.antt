@@ -1,7 +1,7 @@
 -- The set has the nodes of the members so far, and then those at the terminals of the switches so far.
 use Rattle.std.proofs.Common.{◌≡◌, ◌++◌, take}
 use Rattle.std.specs.List.{flat_map}
-use Rattle.path_meaning.specs.Graphs.{place_at}
+use Rattle.switch_paths.specs.Graphs.{place_at}
 use Rattle.group_text.specs.Texts.{firsts, terminals_of}
 use Rattle.group_text.proofs.local.collect_nodes.Given as goal
 

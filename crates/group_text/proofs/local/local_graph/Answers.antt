@@ -3,7 +3,7 @@ use Rattle.std.proofs.Common.{◌≡◌, ℕ, ◌+◌, ◌-◌, ◌≤◌, List,
 use Rattle.std.specs.Prelude.{replicate}
 use Rattle.std.proofs.lemmas.List.{replicate_more}
 use Rattle.strength_order.specs.declared.TheConstants.{INPUT_LEVEL}
-use Rattle.path_meaning.specs.Graphs.{level_of}
+use Rattle.switch_paths.specs.Graphs.{level_of}
 use Rattle.group_text.proofs.local.local_graph.Goals as goal
 
 -- behind a list of levels stands one more of the same

@@ -2,7 +2,7 @@
 use Rattle.std.proofs.Common.{◌≡◌, ◌-◌, ◌++◌, [], length, map, take}
 use Rattle.std.specs.Prelude.{replicate}
 use Rattle.strength_order.specs.declared.TheConstants.{INPUT_LEVEL}
-use Rattle.path_meaning.specs.Graphs.{level_of}
+use Rattle.switch_paths.specs.Graphs.{level_of}
 use Rattle.group_text.proofs.local.local_graph.Given as goal
 
 abbrev pub invariant-loop-member : goal.invariant-loop-member

@@ -1,7 +1,7 @@
 -- A step touches no more than the ends of the switches that changed.
 use Rattle.std.proofs.Common.{◌≡◌, ◌⊎◌, inl, inr, Bool, true, false, List, sym, subst, rules}
 use Rattle.std.specs.Bool.{OnTrue, OnFalse}
-use Rattle.machine_parts.specs.declared.part.HeldPart.{HeldPart}
+use Rattle.machine_parts.specs.declared.part.MachinePart.{MachinePart}
 use Rattle.machine_parts.specs.Parts.{IsStale}
 use Rattle.machine_parts.specs.Stepping.{ReadsChange}
 use Rattle.machine_laws.proofs.FittingLemmas.{touches_changed}
@@ -25,7 +25,7 @@ returns-clause-step g c =
       placed = step.placed;
       last = step.advances.last;
       marks = λ k marked.
-          subst (λ (parts : List HeldPart). ReadsChange parts old.state new.state k ⊎ IsStale parts k) (sym step.advances.parts)
+          subst (λ (parts : List MachinePart). ReadsChange parts old.state new.state k ⊎ IsStale parts k) (sym step.advances.parts)
           (elim (step.advances.marks.only k marked) [ inl stays ↦ inr stays.1 | inr reads ↦ inl reads ]);
       touched = touches_changed old new step.advances;
     }

@@ -1,6 +1,6 @@
 -- The inputs are made, then the levels; the pairs of the last one are the answers.
 use Rattle.std.proofs.Common.{◌*◌, [], arith}
-use Rattle.path_meaning.specs.Graphs.{nodes}
+use Rattle.switch_paths.specs.Graphs.{nodes}
 use Rattle.node_elimination.proofs.AnalysisLemmas.{AreInside-pairs, ReachAtMost-analysed, HasVariablesBelow-analysed, AreRails-shown, steps-analysed}
 use Rattle.node_elimination.proofs.analysis.analyse_graph.Goals as goal
 

@@ -2,7 +2,7 @@
 use Rattle.std.proofs.Common.{◌≡◌, inl, inr, arith}
 use Rattle.std.proofs.lemmas.Bool.{cases_lt}
 use Rattle.std.proofs.lemmas.List.{get_or_past}
-use Rattle.path_meaning.specs.Graphs.{nodes, level_of}
+use Rattle.switch_paths.specs.Graphs.{nodes, level_of}
 use Rattle.node_elimination.proofs.descent.has_node.Goals as goal
 
 pub returns : goal.returns

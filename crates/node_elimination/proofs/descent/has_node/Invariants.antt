@@ -1,6 +1,6 @@
 -- No node so far has the level.
 use Rattle.std.proofs.Common.{ℕ, ◌<◌, ◌≢◌}
-use Rattle.path_meaning.specs.Graphs.{level_of}
+use Rattle.switch_paths.specs.Graphs.{level_of}
 use Rattle.node_elimination.proofs.descent.has_node.Given as goal
 
 abbrev pub invariant-loop-node : goal.invariant-loop-node

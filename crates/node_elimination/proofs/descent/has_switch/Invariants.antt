@@ -1,7 +1,7 @@
 -- No switch so far has the level.
 use Rattle.std.proofs.Common.{◌≡◌, ◌≢◌, ℕ, ◌<◌, Some}
-use Rattle.path_meaning.specs.declared.switching.Switch.{Switch}
-use Rattle.path_meaning.specs.Graphs.{place_at}
+use Rattle.switch_paths.specs.declared.switching.Switch.{Switch}
+use Rattle.switch_paths.specs.Graphs.{place_at}
 use Rattle.node_elimination.proofs.descent.has_switch.Given as goal
 
 abbrev pub invariant-loop-place : goal.invariant-loop-place

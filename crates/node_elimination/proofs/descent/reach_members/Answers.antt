@@ -2,7 +2,7 @@
 use Rattle.std.proofs.Common.{◌≡◌, ◌<◌, length, ap, ◌∙◌, arith}
 use Rattle.std.proofs.lemmas.List.{length-replicate}
 use Rattle.std.proofs.lemmas.Result.{IfOk-weaker}
-use Rattle.path_meaning.specs.Graphs.{nodes}
+use Rattle.switch_paths.specs.Graphs.{nodes}
 use Rattle.bool_pool.specs.declared.gate.Id.{Id}
 use Rattle.node_elimination.proofs.DescentLemmas.{strong_shown, Grows-strong}
 use Rattle.node_elimination.proofs.LevelParts.{all_closed, all_sure, FitLinks-of, sure-true}

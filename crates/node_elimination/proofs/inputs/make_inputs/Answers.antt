@@ -2,7 +2,7 @@
 use Rattle.std.proofs.Common.{◌≡◌, ◌<◌, rules, ◌*◌, ◌+◌, ◌++◌, length, replicate, true, false}
 use Rattle.std.proofs.lemmas.List.Elements.{All-append}
 use Rattle.ternary.specs.Tern.{may_one, may_zero}
-use Rattle.path_meaning.specs.Graphs.{nodes}
+use Rattle.switch_paths.specs.Graphs.{nodes}
 use Rattle.node_elimination.specs.LevelSystem.{IsConstant}
 use Rattle.node_elimination.specs.declared.inputs.Inputs.{Inputs}
 use Rattle.node_elimination.specs.Inputs.{AreRails, ArePasses}

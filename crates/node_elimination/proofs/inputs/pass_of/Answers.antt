@@ -2,8 +2,8 @@
 use Rattle.std.proofs.Common.{◌≡◌, Bool, true, false, List, Result, refl, sym, ◌∙◌}
 use Rattle.std.proofs.lemmas.Result.{IfOk-weaker}
 use Rattle.std.specs.Result.{IfOk}
-use Rattle.path_meaning.specs.Spread.{passes}
-use Rattle.path_meaning.specs.Graphs.{Fits, nodes}
+use Rattle.switch_paths.specs.Spread.{passes}
+use Rattle.switch_paths.specs.Graphs.{Fits, nodes}
 use Rattle.bool_pool.specs.declared.gate.Gate.{Gate}
 use Rattle.bool_pool.specs.declared.gate.Id.{Id}
 use Rattle.bool_pool.specs.declared.gate.Rails.{Rails}

@@ -1,6 +1,6 @@
 -- One place more.
 use Rattle.std.proofs.Common.{arith}
-use Rattle.path_meaning.proofs.PathLemmas.{switch_fits}
+use Rattle.switch_paths.proofs.PathLemmas.{switch_fits}
 use Rattle.node_elimination.proofs.GrowthLemmas.{Extends-trans}
 use Rattle.node_elimination.proofs.InputLemmas.{ArePasses-push, pass_steps, steps_within}
 use Rattle.node_elimination.proofs.RailLemmas.{IsConstant-extends}

@@ -1,7 +1,7 @@
 -- The switch links its ends both ways.
 use Rattle.std.proofs.Common.{◌≡◌, Some, ◌∙◌, sym, arith}
 use Rattle.std.proofs.lemmas.Result.{on_ok_weaker}
-use Rattle.path_meaning.specs.Graphs.{Fits, nodes, place_at}
+use Rattle.switch_paths.specs.Graphs.{Fits, nodes, place_at}
 use Rattle.node_elimination.proofs.EquationsLemmas.{Moves-trans}
 use Rattle.node_elimination.proofs.LinkLemmas.{AddsLink-size, AddsLinks-both}
 use Rattle.node_elimination.proofs.level.add_place.Goals as goal

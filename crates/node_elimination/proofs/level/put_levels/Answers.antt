@@ -1,6 +1,6 @@
 -- One member more.
 use Rattle.std.proofs.Common.{nat_le, if◌then◌else◌, ◌∙◌, arith}
-use Rattle.path_meaning.specs.Graphs.{level_of}
+use Rattle.switch_paths.specs.Graphs.{level_of}
 use Rattle.node_elimination.proofs.EquationsLemmas.{IsSquare-put_right, edges-put_right, size-put_right, left-put_right}
 use Rattle.node_elimination.proofs.BaseLemmas.{rights-more}
 use Rattle.node_elimination.proofs.level.put_levels.Goals as goal

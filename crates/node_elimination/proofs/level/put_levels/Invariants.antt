@@ -1,6 +1,6 @@
 -- The members so far have their bases.
 use Rattle.std.proofs.Common.{◌≡◌, ℕ, ◌<◌, nat_le, if◌then◌else◌}
-use Rattle.path_meaning.specs.Graphs.{level_of}
+use Rattle.switch_paths.specs.Graphs.{level_of}
 use Rattle.node_elimination.specs.Equations.{IsSquare, right_at}
 use Rattle.node_elimination.proofs.level.put_levels.Given as goal
 

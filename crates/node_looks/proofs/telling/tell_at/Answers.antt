@@ -1,6 +1,6 @@
 use Rattle.std.proofs.Common.{◌<◌, ◌≤◌, ◌+◌, ◌∷◌, [], List, length, filter_map, subst, ◌∙◌, arith}
 use Rattle.std.proofs.lemmas.Result.{err_from_is_err_and}
-use Rattle.path_meaning.specs.Graphs.{place_at}
+use Rattle.switch_paths.specs.Graphs.{place_at}
 use Rattle.told_lines.specs.Lines.{Line}
 use Rattle.told_lines.specs.Hearing.{SoFar, of_column}
 use Rattle.told_lines.proofs.HearingLemmas.{so_far-more, so_far-stopped, so_far-end}

@@ -1,6 +1,6 @@
 use Rattle.std.proofs.Common.{◌≡◌, ℕ, List, [], ◌∷◌, ◌++◌, Bool, true, false, Vec, length, take, sym, subst, ◌∙◌, arith}
 use Rattle.std.specs.declared.alloc.Global.{Global}
-use Rattle.path_meaning.specs.Graphs.{nodes}
+use Rattle.switch_paths.specs.Graphs.{nodes}
 use Rattle.netlist.proofs.NamingLemmas.{take-one_more}
 use Rattle.node_words.specs.Words.{AreMarks}
 use Rattle.node_words.proofs.WordLemmas.{AreMarks-more}

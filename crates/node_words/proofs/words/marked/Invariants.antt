@@ -1,5 +1,5 @@
 use Rattle.std.proofs.Common.{take}
-use Rattle.path_meaning.specs.Graphs.{nodes}
+use Rattle.switch_paths.specs.Graphs.{nodes}
 use Rattle.node_words.specs.Words.{AreMarks}
 use Rattle.node_words.proofs.words.marked.Given as goal
 

@@ -1,7 +1,7 @@
 -- One part more is listed.
 use Rattle.std.proofs.Common.{◌+◌, ◌<◌, ◌≤◌, ℕ, List, All, length, sym, ap, subst, arith}
 use Rattle.std.proofs.lemmas.List.{with_items_is}
-use Rattle.machine_parts.specs.declared.part.HeldPart.{HeldPart}
+use Rattle.machine_parts.specs.declared.part.MachinePart.{MachinePart}
 use Rattle.machine_parts.specs.Parts.{Stands}
 use Rattle.part_lists.specs.Listing.{nodes_of, Lists, AreListed}
 use Rattle.part_lists.proofs.ListLemmas.{AreListed-more}
@@ -17,13 +17,13 @@ loop-k-init c = record {
 pub nodes_of-requires : goal.nodes_of-requires
 nodes_of-requires c =
     let part = c.index-parts-k.result in
-    subst (λ (one : HeldPart). one.members ≤ length one.map.items) (sym c.index-parts-k.is) (c.requires.front c.loop-k.k part c.loop-k-test.true)
+    subst (λ (one : MachinePart). one.members ≤ length one.map.items) (sym c.index-parts-k.is) (c.requires.front c.loop-k.k part c.loop-k-test.true)
 
 pub list_part-requires : goal.list_part-requires
 list_part-requires c = λ place d inside.
     let P : List ℕ → Type 0 = λ nodes. All (λ node. node < c.args.nodes) nodes in
     let part = c.index-parts-k.result in
-    let below = subst (λ (one : HeldPart). P (nodes_of c.args.members one)) (sym c.index-parts-k.is) (c.requires.below c.loop-k.k part c.loop-k-test.true) in
+    let below = subst (λ (one : MachinePart). P (nodes_of c.args.members one)) (sym c.index-parts-k.is) (c.requires.below c.loop-k.k part c.loop-k-test.true) in
     let there = subst P (sym c.nodes_of.ensures) below in
     omega (arith, there place d inside, c.loop-k.invariant.counted, ap length c.deref_mut.ensures.value)
 

@@ -5,7 +5,7 @@ use Rattle.std.proofs.lemmas.List.{length-set}
 use Rattle.std.proofs.lemmas.Option.{slice_get_read}
 use Rattle.machine_parts.specs.Marking.{IsMarked, members_of, instructions_of}
 use Rattle.machine_parts.specs.Evaluating.{Rooms, IsSeated}
-use Rattle.part_steps.specs.Desks.{rooms}
+use Rattle.part_steps.specs.Workspaces.{rooms}
 use Rattle.part_steps.specs.Together.{CanRun, outputs_at, instructions_at}
 use Rattle.machine_parts.proofs.MarkLemmas.{count_marked-cleared, marked_sum-cleared}
 use Rattle.machine_parts.proofs.SetMarks.{marked_inside}
@@ -22,7 +22,7 @@ loop-k-init g c =
     record {
       evaluated = rw (c.requires.changes, c.requires.done) (EvaluatedBut-none c.args.joining c.args.parts.now c.args.state.now c.args.agenda.now.waiting
           c.args.agenda.now.marks c.args.dense.now.seats.items slots empty);
-      all = λ one waits. absurd {A = CanRun (length c.args.state.now) (rooms c.args.desk.now) codes c.args.dense.now.nodes.items one} (none_waits slots empty one waits);
+      all = λ one waits. absurd {A = CanRun (length c.args.state.now) (rooms c.args.workspace.now) codes c.args.dense.now.nodes.items one} (none_waits slots empty one waits);
       count = refl;
       waiting = refl;
       rooms = refl;
@@ -40,13 +40,13 @@ take_in-requires-clause-run g c =
     let seats = c.args.dense.now.seats.items in
     let seat = c.in-Some-index.seat in
     let count = length c.args.state.now in
-    let room = rooms c.args.desk.now in
+    let room = rooms c.args.workspace.now in
     let inside : k < length seats =
     omega (arith, marked_inside c.loop-k.agenda.marks k c.in-Some.ensures.marked, c.loop-k.invariant.count, c.requires.counted, c.requires.dense.counted) in
     let there : slice_get seats k ≡ Some (Some seat) = slice_get_read seats (length seats) k _ refl inside c.index.ensures ∙ ap Some c.in-Some-index.is in
     let found = found_by parts codes nodes seats k seat c.requires.dense there in
     let seated = subst (IsSeated count room) found.stands.here (c.requires.seated k found.part found.stands.inside) in
-    let same = pushed_rooms c.loop-k.desk c.push_reserved.new.self c.push_reserved.ensures.capacity ∙ c.loop-k.invariant.rooms in
+    let same = pushed_rooms c.loop-k.workspace c.push_reserved.new.self c.push_reserved.ensures.capacity ∙ c.loop-k.invariant.rooms in
     subst (λ wide. CanRun count wide codes nodes seat) (sym same)
     (CanRun-seated c.args.joining parts c.args.state.now room codes nodes k found.part seat found.stands found.place seated)
 
@@ -61,7 +61,7 @@ loop-k-preserved-in-Some-index g c =
     let seats = c.args.dense.now.seats.items in
     let seat = c.in-Some-index.seat in
     let count = length state in
-    let room = rooms c.args.desk.now in
+    let room = rooms c.args.workspace.now in
     let marks = c.loop-k.agenda.marks in
     let marked = c.in-Some.ensures.marked in
     let cleared = c.in-Some.ensures.cleared in
@@ -74,14 +74,14 @@ loop-k-preserved-in-Some-index g c =
     let runs = CanRun-seated joining parts state room codes nodes k part seat found.stands found.place seated in
     let outputs = outputs_seated joining parts state room codes nodes k part seat found.stands found.place seated in
     let instructions = instructions_seated joining parts state room codes nodes k part seat found.stands found.place seated in
-    let same = pushed_rooms c.loop-k.desk c.push_reserved.new.self c.push_reserved.ensures.capacity ∙ so_far.rooms in
+    let same = pushed_rooms c.loop-k.workspace c.push_reserved.new.self c.push_reserved.ensures.capacity ∙ so_far.rooms in
     let ready : ¬ IsMarked c.args.agenda.now.waiting k = rw (← so_far.waiting) c.in-Some.ensures.ready in
     let notes = NoteTheirChanges-from_AreSeatsOf joining parts state room codes nodes seats c.requires.dense c.requires.seated in
     let took = c.take_in.ensures in
-    let more = EvaluatedBut-taken joining parts state c.args.agenda.now.waiting c.args.agenda.now.marks seats marks c.loop-k.desk.done.items k marked ready
-    codes nodes notes seat there c.loop-k.desk.batches c.take_in.new.desk.batches c.loop-k.desk.changes.items c.take_in.new.desk.changes.items took.takes
+    let more = EvaluatedBut-taken joining parts state c.args.agenda.now.waiting c.args.agenda.now.marks seats marks c.loop-k.workspace.done.items k marked ready
+    codes nodes notes seat there c.loop-k.workspace.bundles c.take_in.new.workspace.bundles c.loop-k.workspace.changes.items c.take_in.new.workspace.changes.items took.takes
     so_far.evaluated in
-    let done_are : c.take_in.new.desk.done.items ≡ c.loop-k.desk.done.items ++ k ∷ [] =
+    let done_are : c.take_in.new.workspace.done.items ≡ c.loop-k.workspace.done.items ++ k ∷ [] =
     ap (λ (list : Vec ℕ Global). list.items) took.done ∙ c.push_reserved.ensures.items in
     let changes_room = ap (λ (room : Rooms). room.changes) took.rooms in
     record {
@@ -138,14 +138,14 @@ loop-k-preserved g c =
     let there : slice_get seats k ≡ Some None = slice_get_read seats (length seats) k _ refl inside c.index.ensures ∙ ap Some c.in_default-index.is in
     let (part, stands, none) = codeless_by parts c.args.dense.now.codes.items c.args.dense.now.nodes.items seats k c.requires.dense there in
     let ready : ¬ IsMarked c.args.agenda.now.waiting k = rw (← so_far.waiting) c.in-Some.ensures.ready in
-    let more = EvaluatedBut-codeless joining parts state c.args.agenda.now.waiting c.args.agenda.now.marks seats marks c.loop-k.desk.done.items k marked ready
-    c.loop-k.desk.batches c.loop-k.desk.changes.items (no_change_of joining parts state k part stands none) so_far.evaluated in
+    let more = EvaluatedBut-codeless joining parts state c.args.agenda.now.waiting c.args.agenda.now.marks seats marks c.loop-k.workspace.done.items k marked ready
+    c.loop-k.workspace.bundles c.loop-k.workspace.changes.items (no_change_of joining parts state k part stands none) so_far.evaluated in
     record {
       evaluated = rw (cleared, c.push_reserved.ensures.items) more;
       all = so_far.all;
       count = ap length cleared ∙ (length-set marks k false ∙ so_far.count);
       waiting = c.in-Some.ensures.waiting ∙ so_far.waiting;
-      rooms = pushed_rooms c.loop-k.desk c.push_reserved.new.self c.push_reserved.ensures.capacity ∙ so_far.rooms;
+      rooms = pushed_rooms c.loop-k.workspace c.push_reserved.new.self c.push_reserved.ensures.capacity ∙ so_far.rooms;
       changes_room = rw cleared (omega (arith, marked_sum-cleared members_of parts marks k part stands.inside stands.here marked, so_far.changes_room));
       done_room = rw cleared
           (omega (
@@ -169,12 +169,13 @@ returns-clause-evaluated g c =
     let waiting = c.args.agenda.now.waiting in
     let before = c.args.agenda.now.marks in
     let marks = c.loop-k.agenda.marks in
-    let done = c.loop-k.desk.done in
-    let slots = c.run_all.new.desk.batches in
-    let changes = c.run_all.new.desk.changes.items in
-    let notes = NoteTheirChanges-from_AreSeatsOf joining parts state (rooms c.args.desk.now) codes nodes seats c.requires.dense c.requires.seated in
-    let run = EvaluatedBut-run joining parts state waiting before seats codes nodes notes marks done.items c.loop-k.desk.batches slots
-    c.loop-k.desk.changes.items changes c.run_all.ensures.runs c.loop-k.invariant.evaluated in
+    let done = c.loop-k.workspace.done in
+    let slots = c.run_all.new.workspace.bundles in
+    let changes = c.run_all.new.workspace.changes.items in
+    let notes = NoteTheirChanges-from_AreSeatsOf joining parts state (rooms c.args.workspace.now) codes nodes seats c.requires.dense
+    c.requires.seated in
+    let run = EvaluatedBut-run joining parts state waiting before seats codes nodes notes marks done.items c.loop-k.workspace.bundles slots
+    c.loop-k.workspace.changes.items changes c.run_all.ensures.runs c.loop-k.invariant.evaluated in
     let all = Evaluated-from_EvaluatedBut joining parts state waiting before seats marks slots changes done.items c.run_all.ensures.empty run in
-    let same : c.run_all.new.desk.done.items ≡ done.items = ap (λ (list : Vec ℕ Global). list.items) c.run_all.ensures.done in
+    let same : c.run_all.new.workspace.done.items ≡ done.items = ap (λ (list : Vec ℕ Global). list.items) c.run_all.ensures.done in
     rw (c.in_default.ensures.none, same) all

@@ -2,7 +2,7 @@
 use Rattle.std.proofs.Common.{◌≡◌, ℕ, List, ◌+◌, ◌*◌, ◌<◌, length, sym, ap, ◌∙◌, arith}
 use Rattle.std.proofs.lemmas.Bool.{eqb-true, eqb-false}
 use Rattle.std.proofs.lemmas.Option.{slice_get_within}
-use Rattle.part_steps.specs.Desks.{rooms}
+use Rattle.part_steps.specs.Workspaces.{rooms}
 use Rattle.part_steps.specs.Waiting.{starts_in, code_in, cleared_at, waiting_sum}
 use Rattle.part_steps.specs.Together.{outputs_at, instructions_at}
 use Rattle.part_steps.proofs.WaitingLemmas.{cleared_same, waiting_sum-cleared}
@@ -13,7 +13,7 @@ use Rattle.part_steps.proofs.evaluation.run_slot.Goals as goal
 
 pub returns-then-is_empty-clause-cleared : goal.returns-then-is_empty-clause-cleared
 returns-then-is_empty-clause-cleared g c =
-    let slots = c.args.desk.now.batches in
+    let slots = c.args.workspace.now.bundles in
     let place = c.args.place in
     let inside : place < length slots = omega (arith, c.requires.inside, c.starts-starts.ensures.counted) in
     let none = eqb-true (length c.starts-starts.result.now) 0 (sym c.is_empty.ensures ∙ c.if-is_empty.true) in
@@ -21,53 +21,53 @@ returns-then-is_empty-clause-cleared g c =
 
 pub index-code-requires : goal.index-code-requires
 index-code-requires g c =
-    let slots = c.args.desk.now.batches in
+    let slots = c.args.workspace.now.bundles in
     let place = c.args.place in
     let codes = c.args.dense.now.codes.items in
     let inside : place < length slots = omega (arith, c.requires.inside, c.starts-starts.ensures.counted) in
     let differs = eqb-false (length c.starts-starts.result.now) 0 (sym c.is_empty.ensures ∙ c.if-is_empty.false) in
     let some : 0 < length (starts_in slots place) = omega (arith, differs, ap (λ (xs : List ℕ). length xs) c.starts-starts.ensures.starts) in
-    let together = RunsTogether-from_all (length c.args.state.now) (rooms c.args.desk.now) codes c.args.dense.now.nodes.items slots place inside
+    let together = RunsTogether-from_all (length c.args.state.now) (rooms c.args.workspace.now) codes c.args.dense.now.nodes.items slots place inside
     c.requires.all some in
     omega (arith, c.code.ensures, slice_get_within codes (code_in slots place) together.code together.there)
 
 -- the slot is one of the slots
-slot_inside : (g : Over) (c : After-code g) → c.args.place < length c.args.desk.now.batches
+slot_inside : (g : Over) (c : After-code g) → c.args.place < length c.args.workspace.now.bundles
 slot_inside g c = omega (arith, c.requires.inside, c.starts-starts.ensures.counted)
 
 -- some part waits in it
-slot_some : (g : Over) (c : After-code g) → 0 < length (starts_in c.args.desk.now.batches c.args.place)
+slot_some : (g : Over) (c : After-code g) → 0 < length (starts_in c.args.workspace.now.bundles c.args.place)
 slot_some g c =
     let differs = eqb-false (length c.starts-starts.result.now) 0 (sym c.is_empty.ensures ∙ c.if-is_empty.false) in
     omega (arith, differs, ap (λ (xs : List ℕ). length xs) c.starts-starts.ensures.starts)
 
 -- and all that do can be run together
 together : (g : Over) (c : After-code g) →
-    RunsTogether (length c.args.state.now) (rooms c.args.desk.now) c.args.dense.now.codes.items c.args.dense.now.nodes.items
-    (code_in c.args.desk.now.batches c.args.place) (starts_in c.args.desk.now.batches c.args.place)
+    RunsTogether (length c.args.state.now) (rooms c.args.workspace.now) c.args.dense.now.codes.items c.args.dense.now.nodes.items
+    (code_in c.args.workspace.now.bundles c.args.place) (starts_in c.args.workspace.now.bundles c.args.place)
 together g c =
-    RunsTogether-from_all (length c.args.state.now) (rooms c.args.desk.now) c.args.dense.now.codes.items c.args.dense.now.nodes.items
-    c.args.desk.now.batches c.args.place (slot_inside g c) c.requires.all (slot_some g c)
+    RunsTogether-from_all (length c.args.state.now) (rooms c.args.workspace.now) c.args.dense.now.codes.items c.args.dense.now.nodes.items
+    c.args.workspace.now.bundles c.args.place (slot_inside g c) c.requires.all (slot_some g c)
 
 -- the code that is run is theirs
-code_run : (g : Over) (c : After-deref g) (waits : RunsTogether (length c.args.state.now) (rooms c.args.desk.now) c.args.dense.now.codes.items
-    c.args.dense.now.nodes.items (code_in c.args.desk.now.batches c.args.place) (starts_in c.args.desk.now.batches c.args.place)) →
+code_run : (g : Over) (c : After-deref g) (waits : RunsTogether (length c.args.state.now) (rooms c.args.workspace.now) c.args.dense.now.codes.items
+    c.args.dense.now.nodes.items (code_in c.args.workspace.now.bundles c.args.place) (starts_in c.args.workspace.now.bundles c.args.place)) →
     c.deref.result.now ≡ waits.code.value
 code_run g c waits =
-    code_read c.args.dense.now.codes.items (code_in c.args.desk.now.batches c.args.place) c.code.result waits.code c.index-code.result.now
+    code_read c.args.dense.now.codes.items (code_in c.args.workspace.now.bundles c.args.place) c.code.result waits.code c.index-code.result.now
     c.deref.result.now c.code.ensures waits.there c.index-code.ensures c.deref.ensures
 
 pub run_together-requires : goal.run_together-requires
 run_together-requires g c =
     let at_run = goal.at.run_together-requires g c in
-    let slots = c.args.desk.now.batches in
+    let slots = c.args.workspace.now.bundles in
     let place = c.args.place in
     let codes = c.args.dense.now.codes.items in
     let waits = together g at_run.After-code in
     let code = code_run g at_run.After-deref waits in
     let costs = ap (λ n. length (starts_in slots place) * n) (outputs_there codes (code_in slots place) waits.code waits.there) in
     record {
-      lanes = c.starts-starts.ensures.few;
+      columns = c.starts-starts.ensures.few;
       inside = rw (c.starts-starts.ensures.starts, code, c.deref-2.ensures.value) waits.inside;
       below = rw (c.starts-starts.ensures.starts, code, c.deref-2.ensures.value) waits.below;
       front = rw code waits.front;
@@ -82,32 +82,32 @@ returns-clause-runs g c =
     let waits = together g at_end.After-code in
     let code = code_run g at_end.After-deref waits in
     let notes = rw (c.starts-starts.ensures.starts, code, c.deref-2.ensures.value) at c.run_together.ensures.notes in
-    rw c.clear.ensures (RunsSome-slot c.args.joining c.args.dense.now.codes.items c.args.dense.now.nodes.items c.args.state.now c.args.desk.now.batches
-    c.args.place waits.code c.args.desk.now.changes.items c.run_together.new.changes.items (slot_inside g at_end.After-code) waits.there notes)
+    rw c.clear.ensures (RunsSome-slot c.args.joining c.args.dense.now.codes.items c.args.dense.now.nodes.items c.args.state.now c.args.workspace.now.bundles
+    c.args.place waits.code c.args.workspace.now.changes.items c.run_together.new.changes.items (slot_inside g at_end.After-code) waits.there notes)
 
 -- without the parts of the slot so much less waits
 fewer : (g : Over) (c : After-code g) (per_code : ℕ → ℕ) →
-    waiting_sum per_code (cleared_at c.args.desk.now.batches c.args.place)
-    + length (starts_in c.args.desk.now.batches c.args.place) * per_code (code_in c.args.desk.now.batches c.args.place)
-    ≡ waiting_sum per_code c.args.desk.now.batches
-fewer g c per_code = waiting_sum-cleared c.args.desk.now.batches c.args.place (slot_inside g c) per_code
+    waiting_sum per_code (cleared_at c.args.workspace.now.bundles c.args.place)
+    + length (starts_in c.args.workspace.now.bundles c.args.place) * per_code (code_in c.args.workspace.now.bundles c.args.place)
+    ≡ waiting_sum per_code c.args.workspace.now.bundles
+fewer g c per_code = waiting_sum-cleared c.args.workspace.now.bundles c.args.place (slot_inside g c) per_code
 
 pub returns-clause-room : goal.returns-clause-room
 returns-clause-room g c =
     let at_end = goal.at.returns-clause-room g c in
     let waits = together g at_end.After-code in
     let few = rw (c.starts-starts.ensures.starts, code_run g at_end.After-deref waits) at c.run_together.ensures.few in
-    let costs = ap (λ n. length (starts_in c.args.desk.now.batches c.args.place) * n)
-    (outputs_there c.args.dense.now.codes.items (code_in c.args.desk.now.batches c.args.place) waits.code waits.there) in
+    let costs = ap (λ n. length (starts_in c.args.workspace.now.bundles c.args.place) * n)
+    (outputs_there c.args.dense.now.codes.items (code_in c.args.workspace.now.bundles c.args.place) waits.code waits.there) in
     rw c.clear.ensures (omega (arith, few, costs, fewer g at_end.After-code (outputs_at c.args.dense.now.codes.items)))
 
 pub returns-clause-steps : goal.returns-clause-steps
 returns-clause-steps g c =
     let at_end = goal.at.returns-clause-steps g c in
     let codes = c.args.dense.now.codes.items in
-    let code_at = code_in c.args.desk.now.batches c.args.place in
+    let code_at = code_in c.args.workspace.now.bundles c.args.place in
     let waits = together g at_end.After-code in
     let steps = rw (code_run g at_end.After-deref waits) at c.run_together.ensures.steps in
-    let most = one_of_some (length (starts_in c.args.desk.now.batches c.args.place)) (instructions_at codes code_at) (slot_some g at_end.After-code) in
+    let most = one_of_some (length (starts_in c.args.workspace.now.bundles c.args.place)) (instructions_at codes code_at) (slot_some g at_end.After-code) in
     rw c.clear.ensures
     (omega (arith, steps, instructions_there codes code_at waits.code waits.there, most, fewer g at_end.After-code (instructions_at codes)))

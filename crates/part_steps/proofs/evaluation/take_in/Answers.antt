@@ -10,18 +10,19 @@ use Rattle.part_steps.proofs.evaluation.take_in.Goals as goal
 
 pub returns-clause-takes : goal.returns-clause-takes
 returns-clause-takes g c =
-    let between = c.make_room.new.desk.batches in
+    let between = c.make_room.new.workspace.bundles in
     let seat = c.args.seat in
     let made = c.make_room.ensures in
     rw c.add.ensures (TakesIn-from_RunsSome c.args.joining c.args.dense.now.codes.items c.args.dense.now.nodes.items c.args.state.now seat
-    c.args.desk.now.batches between c.args.desk.now.changes.items c.make_room.new.desk.changes.items (slot_inside between seat.code made.counted)
+    c.args.workspace.now.bundles between c.args.workspace.now.changes.items c.make_room.new.workspace.changes.items
+    (slot_inside between seat.code made.counted)
     made.has_room made.runs)
 
 -- with the part so much more waits
 more : (g : Over) (c : After-make_room g) (per_code : ℕ → ℕ) →
-    waiting_sum per_code (with_seat c.make_room.new.desk.batches c.args.seat) ≡ waiting_sum per_code c.make_room.new.desk.batches + per_code c.args.seat.code
+    waiting_sum per_code (with_seat c.make_room.new.workspace.bundles c.args.seat) ≡ waiting_sum per_code c.make_room.new.workspace.bundles + per_code c.args.seat.code
 more g c per_code =
-    let between = c.make_room.new.desk.batches in
+    let between = c.make_room.new.workspace.bundles in
     waiting_sum-with_seat between c.args.seat (slot_inside between c.args.seat.code c.make_room.ensures.counted) c.make_room.ensures.has_room per_code
 
 pub returns-clause-room : goal.returns-clause-room

@@ -1,7 +1,7 @@
 -- The members of one part more are owned.
 use Rattle.std.proofs.Common.{◌+◌, ◌≤◌, take, length, sym, subst, arith}
 use Rattle.std.proofs.lemmas.List.{with_items_is}
-use Rattle.machine_parts.specs.declared.part.HeldPart.{HeldPart}
+use Rattle.machine_parts.specs.declared.part.MachinePart.{MachinePart}
 use Rattle.machine_parts.specs.Parts.{Stands}
 use Rattle.machine_parts.specs.Making.{Owns, AreOwned}
 use Rattle.machine_parts.proofs.MakingLemmas.{AreOwned-more}
@@ -12,7 +12,8 @@ loop-k-preserved c =
     let part = c.index-parts-k.result in
     let stands : Stands c.args.parts.now c.loop-k.k part = record { inside = c.loop-k-test.true; here = sym c.index-parts-k.is } in
     let few : part.members ≤ length part.map.items =
-    subst (λ (one : HeldPart). one.members ≤ length one.map.items) (sym c.index-parts-k.is) (c.requires.members c.loop-k.k part c.loop-k-test.true) in
+    subst (λ (one : MachinePart). one.members ≤ length one.map.items) (sym c.index-parts-k.is)
+    (c.requires.members c.loop-k.k part c.loop-k-test.true) in
     let final = with_items_is c.loop-k.owners c.own.new.owners (omega (arith, c.own.auto.owners, c.deref_mut.ensures.len)) in
     let owns : Owns c.loop-k.k (take part.members part.map.items) c.loop-k.owners.items c.own.new.owners =
     subst (λ nodes. Owns c.loop-k.k (take part.members nodes) c.loop-k.owners.items c.own.new.owners) c.deref.ensures.value

@@ -3,7 +3,7 @@ use Rattle.std.proofs.Common.{◌≡◌, ◌<◌, ℕ, List, true, get_or, lengt
 use Rattle.std.specs.Prelude.{slice_get, Contains}
 use Rattle.std.specs.Result.{is_ok}
 use Rattle.std.proofs.lemmas.Option.{slice_get_read, slice_get_within}
-use Rattle.machine_parts.specs.declared.part.HeldPart.{HeldPart}
+use Rattle.machine_parts.specs.declared.part.MachinePart.{MachinePart}
 use Rattle.machine_parts.specs.Readers.{readers_of, ListsSome}
 use Rattle.machine_parts.proofs.MakingLemmas.{at_on_ok}
 use Rattle.part_steps.proofs.ReadersLemmas.{AreListedTo-none, AreListedTo-more, HaveSameReaders-off, not_yet_listed, reads_below, slot_read}
@@ -13,7 +13,7 @@ pub loop-place-init : goal.loop-place-init
 loop-place-init c = AreListedTo-none c.args.slots.now c.args.fresh.now c.args.lists.now c.requires.each
 
 -- the next part is there
-part_there : (fresh : List HeldPart) (i : ℕ) (part : HeldPart) → i < length fresh → part ≡ get_or fresh i part → slice_get fresh i ≡ Some part
+part_there : (fresh : List MachinePart) (i : ℕ) (part : MachinePart) → i < length fresh → part ≡ get_or fresh i part → slice_get fresh i ≡ Some part
 part_there fresh i part inside is = slice_get_read fresh (length fresh) i part refl inside is
 
 pub list_part-requires-clause-below : goal.list_part-requires-clause-below

@@ -9,7 +9,7 @@ use Rattle.std.proofs.lemmas.List.Sums.{count_by-le-length}
 use Rattle.ternary.specs.declared.tern.Tern.TheVariants.{Zero}
 use Rattle.part_words.specs.declared.change.Change.{Change}
 use Rattle.machine_parts.specs.Marking.{members_of, MarksAll}
-use Rattle.part_steps.specs.Desks.{rooms}
+use Rattle.part_steps.specs.Workspaces.{rooms}
 use Rattle.machine_parts.specs.Evaluating.{IsSeated}
 use Rattle.machine_parts.specs.Running.{AreAgreed, IsTaken, ReadsAny}
 use Rattle.machine_parts.proofs.MarkLemmas.{marked_sum-within}
@@ -30,7 +30,7 @@ evaluate_all-requires g c =
     let runs = c.requires.runnable in
     let parts = c.args.parts.now in
     let marks = c.args.agenda.now.marks in
-    let same = cleared_rooms c.args.desk.now c.clear.new.self c.clear-2.new.self c.clear.ensures.capacity c.clear-2.ensures.capacity in
+    let same = cleared_rooms c.args.workspace.now c.clear.new.self c.clear-2.new.self c.clear.ensures.capacity c.clear-2.ensures.capacity in
     record {
       dense = c.requires.dense;
       counted = runs.counted;
@@ -56,18 +56,18 @@ evaluate_awake-requires-clause-room g c = enough_in c.args.parts.now c.args.stat
 -- the changes that were noted are those that the marked parts make, and those of the nodes that are awake
 are_changes : (g : Over) (c : After-evaluate_awake g) →
     AreChanges c.args.joining c.args.parts.now c.args.agenda.now.marks c.args.wide.now c.args.state.now
-    (c.evaluate_all.new.desk.changes.items ++ c.evaluate_awake.new.noted.items)
+    (c.evaluate_all.new.workspace.changes.items ++ c.evaluate_awake.new.noted.items)
 are_changes g c =
     AreChanges-from_Evaluated c.args.joining c.args.parts.now c.args.agenda.now.marks c.args.agenda.now.waiting c.args.state.now c.args.readers.now
-    (rooms c.args.desk.now) c.requires.runnable c.args.wide.now _ c.requires.wide c.evaluate_all.new.agenda.marks
-    c.evaluate_all.new.desk.changes.items c.evaluate_awake.new.noted.items
-    c.evaluate_all.new.desk.done.items c.evaluate_all.ensures.evaluated c.evaluate_all.ensures.rest c.evaluate_awake.ensures.notes
+    (rooms c.args.workspace.now) c.requires.runnable c.args.wide.now _ c.requires.wide c.evaluate_all.new.agenda.marks
+    c.evaluate_all.new.workspace.changes.items c.evaluate_awake.new.noted.items
+    c.evaluate_all.new.workspace.done.items c.evaluate_all.ensures.evaluated c.evaluate_all.ensures.rest c.evaluate_awake.ensures.notes
 
 inside_all : (g : Over) (c : After-evaluate_awake g) → (change : Change) →
-    Contains (c.evaluate_all.new.desk.changes.items ++ c.evaluate_awake.new.noted.items) change → change.node < length c.args.state.now
+    Contains (c.evaluate_all.new.workspace.changes.items ++ c.evaluate_awake.new.noted.items) change → change.node < length c.args.state.now
 inside_all g c = changes_inside c.args.joining _ _ _ _ _ _ c.requires.runnable _ _ c.requires.wide _ (are_changes g c)
 
-agreed_all : (g : Over) (c : After-evaluate_awake g) → AreAgreed (c.evaluate_all.new.desk.changes.items ++ c.evaluate_awake.new.noted.items)
+agreed_all : (g : Over) (c : After-evaluate_awake g) → AreAgreed (c.evaluate_all.new.workspace.changes.items ++ c.evaluate_awake.new.noted.items)
 agreed_all g c = changes_agree c.args.joining _ _ _ _ _ _ c.requires.runnable _ _ c.requires.wide _ (are_changes g c)
 
 -- before the changes are taken over the lists are those of the states
@@ -80,7 +80,7 @@ pub take_over-requires : goal.take_over-requires
 take_over-requires g c =
     let noted = (goal.at.take_over-requires g c).After-evaluate_awake in
     let runs = c.requires.runnable in
-    let xs = c.evaluate_all.new.desk.changes.items in
+    let xs = c.evaluate_all.new.workspace.changes.items in
     let ys = c.evaluate_awake.new.noted.items in
     record {
       inside = λ change there.
@@ -94,14 +94,14 @@ take_over-requires g c =
     }
 
 -- the first changes are taken over, and the others after them
-first_taken : (g : Over) (c : After-take_over g) → IsTaken c.evaluate_all.new.desk.changes.items c.args.state.now c.take_over.new.state
+first_taken : (g : Over) (c : After-take_over g) → IsTaken c.evaluate_all.new.workspace.changes.items c.args.state.now c.take_over.new.state
 first_taken g c = subst (λ xs. IsTaken xs c.args.state.now c.take_over.new.state) c.deref-2.ensures.value c.take_over.ensures.taken
 
 pub take_over-requires-2 : goal.take_over-requires-2
 take_over-requires-2 g c =
     let noted = (goal.at.take_over-requires-2 g c).After-evaluate_awake in
     let runs = c.requires.runnable in
-    let xs = c.evaluate_all.new.desk.changes.items in
+    let xs = c.evaluate_all.new.workspace.changes.items in
     let ys = c.evaluate_awake.new.noted.items in
     let count = (first_taken g (goal.at.take_over-requires-2 g c).After-take_over).count in
     record {
@@ -117,11 +117,12 @@ take_over-requires-2 g c =
           (calm_listed g (goal.at.take_over-requires-2 g c).After-calm);
     }
 
-all_taken : (g : Over) (c : After-take_over-2 g) → AreAgreed (c.evaluate_all.new.desk.changes.items ++ c.evaluate_awake.new.noted.items) →
-    IsTaken c.evaluate_all.new.desk.changes.items c.args.state.now c.take_over.new.state →
-    IsTaken (c.evaluate_all.new.desk.changes.items ++ c.evaluate_awake.new.noted.items) c.args.state.now c.take_over-2.new.state
+all_taken : (g : Over) (c : After-take_over-2 g) → AreAgreed (c.evaluate_all.new.workspace.changes.items ++ c.evaluate_awake.new.noted.items) →
+    IsTaken c.evaluate_all.new.workspace.changes.items c.args.state.now c.take_over.new.state →
+    IsTaken (c.evaluate_all.new.workspace.changes.items ++ c.evaluate_awake.new.noted.items) c.args.state.now c.take_over-2.new.state
 all_taken g c agreed first =
-    IsTaken-then c.evaluate_all.new.desk.changes.items c.evaluate_awake.new.noted.items c.args.state.now c.take_over.new.state c.take_over-2.new.state
+    IsTaken-then c.evaluate_all.new.workspace.changes.items c.evaluate_awake.new.noted.items c.args.state.now c.take_over.new.state
+    c.take_over-2.new.state
     agreed first (subst (λ ys. IsTaken ys c.take_over.new.state c.take_over-2.new.state) c.deref-3.ensures.value c.take_over-2.ensures.taken)
 
 pub returns-clause-moves : goal.returns-clause-moves
@@ -136,8 +137,8 @@ returns-clause-marks g c =
     let at_end = goal.at.returns-clause-marks g c in
     let noted = at_end.After-evaluate_awake in
     let e = c.evaluate_all.ensures in
-    let done = c.evaluate_all.new.desk.done.items in
-    let xs = c.evaluate_all.new.desk.changes.items in
+    let done = c.evaluate_all.new.workspace.done.items in
+    let xs = c.evaluate_all.new.workspace.changes.items in
     let ys = c.evaluate_awake.new.noted.items in
     let first = c.evaluate_all.new.agenda.marks in
     let second = c.mark_again.new.agenda.marks in
@@ -151,11 +152,11 @@ returns-clause-marks g c =
     first second fourth xs done e.evaluated e.rest e.count again (MarksAll-both c.args.readers.now xs ys second third fourth read read_too)
 
 -- both together turn the lists
-both_turned : (g : Over) (c : After-take_over-2 g) → AreAgreed (c.evaluate_all.new.desk.changes.items ++ c.evaluate_awake.new.noted.items) →
-    IsTaken c.evaluate_all.new.desk.changes.items c.args.state.now c.take_over.new.state →
+both_turned : (g : Over) (c : After-take_over-2 g) → AreAgreed (c.evaluate_all.new.workspace.changes.items ++ c.evaluate_awake.new.noted.items) →
+    IsTaken c.evaluate_all.new.workspace.changes.items c.args.state.now c.take_over.new.state →
     TurnedIn c.calm.new.wide c.take_over-2.new.wide c.args.state.now c.take_over-2.new.state
 both_turned g c agreed first =
-    let xs = c.evaluate_all.new.desk.changes.items in
+    let xs = c.evaluate_all.new.workspace.changes.items in
     let ys = c.evaluate_awake.new.noted.items in
     let next = subst (λ ys. IsTaken ys c.take_over.new.state c.take_over-2.new.state) c.deref-3.ensures.value c.take_over-2.ensures.taken in
     TurnedIn-then c.calm.new.wide c.take_over.new.wide c.take_over-2.new.wide c.args.state.now c.take_over.new.state c.take_over-2.new.state
@@ -191,7 +192,7 @@ returns-clause-holds g c =
 pub returns-clause-rooms : goal.returns-clause-rooms
 returns-clause-rooms g c =
     c.evaluate_all.ensures.rooms
-    ∙ cleared_rooms c.args.desk.now c.clear.new.self c.clear-2.new.self c.clear.ensures.capacity c.clear-2.ensures.capacity
+    ∙ cleared_rooms c.args.workspace.now c.clear.new.self c.clear-2.new.self c.clear.ensures.capacity c.clear-2.ensures.capacity
 
 pub returns-clause-steps : goal.returns-clause-steps
 returns-clause-steps g c = record {
@@ -208,7 +209,7 @@ pub returns-clause-changed : goal.returns-clause-changed
 returns-clause-changed g c =
     let at_end = goal.at.returns-clause-changed g c in
     let noted = at_end.After-evaluate_awake in
-    let xs = c.evaluate_all.new.desk.changes.items in
+    let xs = c.evaluate_all.new.workspace.changes.items in
     let ys = c.evaluate_awake.new.noted.items in
     let changes_it = some_change c.args.joining _ _ _ _ _ _ c.requires.runnable _ _ c.requires.wide _ (are_changes g noted) _
     (all_taken g at_end.After-take_over-2 (agreed_all g noted) (first_taken g at_end.After-take_over)) in
@@ -223,7 +224,7 @@ pub returns-clause-same : goal.returns-clause-same
 returns-clause-same g c =
     let at_end = goal.at.returns-clause-same g c in
     let noted = at_end.After-evaluate_awake in
-    let xs = c.evaluate_all.new.desk.changes.items in
+    let xs = c.evaluate_all.new.workspace.changes.items in
     let ys = c.evaluate_awake.new.noted.items in
     let none : OnFalse c.is_any.result ((length xs ≡ 0) × (length ys ≡ 0)) = rw (c.deref-4.ensures.value, c.deref-5.ensures.value) at c.is_any.ensures.none in
     OnFalse_from _ _ (λ unset.

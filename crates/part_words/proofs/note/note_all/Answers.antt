@@ -4,7 +4,7 @@ use Rattle.std.specs.Prelude.{slice_get, slice_index}
 use Rattle.std.proofs.lemmas.List.{length-map}
 use Rattle.std.proofs.lemmas.Option.{slice_get_within}
 use Rattle.ternary.specs.declared.tern.Tern.{Tern}
-use Rattle.path_meaning.specs.Switching.{state_at}
+use Rattle.switch_paths.specs.Switching.{state_at}
 use Rattle.straight_code.specs.Code.{code_value, results}
 use Rattle.part_words.specs.Members.{HasState}
 use Rattle.part_words.specs.Noting.{map_at, states_at}
@@ -24,24 +24,25 @@ loop-k-preserved c =
     let within : k < code.inputs = omega (arith, inside, c.requires.front) in
     record {
       notes = λ state run.
-          let has = λ (lane at : ℕ) (found : slice_get starts lane ≡ Some at).
-          let room = All-read (λ at. at + code.inputs ≤ length nodes) starts lane at c.requires.inside found in
+          let has = λ (column at : ℕ) (found : slice_get starts column ≡ Some at).
+          let room = All-read (λ at. at + code.inputs ≤ length nodes) starts column at c.requires.inside found in
           let input : List Tern = states_at state nodes code.inputs at in
           let many : length input ≡ code.inputs = length-map (map_at nodes code.inputs at) (state_at state) ∙ length-map_at nodes code.inputs at room in
-          subst (HasState lane (slice_index values (2 + 2 * k)) (slice_index values (3 + 2 * k))) (input_at state nodes code.inputs at k room within)
-          (rails_at lane code.inputs (length code.instructions) values input (results input code.instructions) k many within c.requires.values (run lane at found)) in
+          subst (HasState column (slice_index values (2 + 2 * k)) (slice_index values (3 + 2 * k)))
+          (input_at state nodes code.inputs at k room within)
+          (rails_at column code.inputs (length code.instructions) values input (results input code.instructions) k many within c.requires.values (run column at found)) in
           NotesBelow-more joining code nodes state c.requires.front starts k inside c.args.changes.now.items c.loop-k.changes.items
           c.note_member.new.changes.items (c.loop-k.invariant.notes state run)
           (c.note_member.ensures.notes (state_before nodes state k) (state_next joining code nodes state k) has
-          (λ lane at found.
-          let room = All-read (λ at. at + code.inputs ≤ length nodes) starts lane at c.requires.inside found in
+          (λ column at found.
+          let room = All-read (λ at. at + code.inputs ≤ length nodes) starts column at c.requires.inside found in
           let input : List Tern = states_at state nodes code.inputs at in
           let many : length input ≡ code.inputs = length-map (map_at nodes code.inputs at) (state_at state) ∙ length-map_at nodes code.inputs at room in
-          let under : lane < 64 = omega (arith, slice_get_within starts lane at found, c.requires.lanes) in
-          c.after-new.ensures lane (state_before nodes state k at) (state_at (code_value code input) k) (has lane at found)
+          let under : column < 64 = omega (arith, slice_get_within starts column at found, c.requires.columns) in
+          c.after-new.ensures column (state_before nodes state k at) (state_at (code_value code input) k) (has column at found)
           (record {
-            one = c.output_words.ensures.hi lane input under many (run lane at found);
-            other = c.output_words.ensures.lo lane input under many (run lane at found);
+            one = c.output_words.ensures.hi column input under many (run column at found);
+            other = c.output_words.ensures.lo column input under many (run column at found);
           })));
       few = omega (arith, times_more (length starts) k, c.loop-k.invariant.few, c.note_member.ensures.few);
       capacity = c.note_member.ensures.capacity ∙ c.loop-k.invariant.capacity;

@@ -3,7 +3,7 @@ use Rattle.std.proofs.Common.{◌≡◌, ◌+◌, ◌<◌, ◌≤◌, List, leng
 use Rattle.std.proofs.lemmas.List.{length-map}
 use Rattle.std.proofs.lemmas.Option.{slice_get_within}
 use Rattle.ternary.specs.declared.tern.Tern.{Tern}
-use Rattle.path_meaning.specs.Switching.{state_at}
+use Rattle.switch_paths.specs.Switching.{state_at}
 use Rattle.part_words.specs.Noting.{map_at, states_at}
 use Rattle.part_words.proofs.GatherLemmas.{All-read, length-map_at}
 use Rattle.part_words.proofs.together.run_together.Goals as goal
@@ -24,10 +24,10 @@ returns-clause-notes g c =
     let starts = c.args.starts.now in
     let state = c.args.state.now in
     c.note_all.ensures.notes state
-    (λ lane at found.
-    let room = All-read (λ at. at + code.inputs ≤ length nodes) starts lane at c.requires.inside found in
+    (λ column at found.
+    let room = All-read (λ at. at + code.inputs ≤ length nodes) starts column at c.requires.inside found in
     let input : List Tern = states_at state nodes code.inputs at in
     let many : length input ≡ code.inputs = length-map (map_at nodes code.inputs at) (state_at state) ∙ length-map_at nodes code.inputs at room in
-    let under : lane < 64 = omega (arith, slice_get_within starts lane at found, c.requires.lanes) in
-    let gathered = rw c.inputs.ensures at c.gather.ensures.gathered lane at found in
-    c.run_steps.ensures.ran lane input under many gathered)
+    let under : column < 64 = omega (arith, slice_get_within starts column at found, c.requires.columns) in
+    let gathered = rw c.inputs.ensures at c.gather.ensures.gathered column at found in
+    c.run_steps.ensures.ran column input under many gathered)

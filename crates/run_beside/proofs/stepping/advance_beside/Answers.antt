@@ -9,7 +9,7 @@ use Rattle.std.proofs.lemmas.List.Sums.{count_by-le-length}
 use Rattle.ternary.specs.declared.tern.Tern.TheVariants.{Zero}
 use Rattle.part_words.specs.declared.change.Change.{Change}
 use Rattle.machine_parts.specs.Marking.{members_of, MarksAll}
-use Rattle.part_steps.specs.Desks.{rooms}
+use Rattle.part_steps.specs.Workspaces.{rooms}
 use Rattle.machine_parts.specs.Evaluating.{IsSeated}
 use Rattle.machine_parts.specs.Running.{AreAgreed, IsTaken}
 use Rattle.machine_parts.proofs.MarkLemmas.{marked_sum-within}
@@ -34,7 +34,7 @@ evaluate_all-requires g c =
     let runs = c.requires.runnable in
     let parts = c.args.parts.now in
     let marks = c.args.agenda.now.marks in
-    let same = cleared_rooms c.args.desk.now c.clear.new.self c.clear-2.new.self c.clear.ensures.capacity c.clear-2.ensures.capacity in
+    let same = cleared_rooms c.args.workspace.now c.clear.new.self c.clear-2.new.self c.clear.ensures.capacity c.clear-2.ensures.capacity in
     record {
       dense = c.requires.dense;
       counted = runs.counted;
@@ -60,18 +60,18 @@ evaluate_awake-requires-clause-room g c = enough_in c.args.parts.now c.args.bad.
 -- the changes that were noted are those that the marked parts make, and those of the nodes that are awake
 are_changes : (g : Over) (c : After-evaluate_awake g) →
     AreChanges c.args.joining c.args.parts.now c.args.agenda.now.marks c.args.wide.now c.args.bad.now
-    (c.evaluate_all.new.desk.changes.items ++ c.evaluate_awake.new.noted.items)
+    (c.evaluate_all.new.workspace.changes.items ++ c.evaluate_awake.new.noted.items)
 are_changes g c =
     AreChanges-from_Evaluated c.args.joining c.args.parts.now c.args.agenda.now.marks c.args.agenda.now.waiting c.args.bad.now c.args.readers.now
-    (rooms c.args.desk.now) c.requires.runnable c.args.wide.now _ c.requires.wide c.evaluate_all.new.agenda.marks
-    c.evaluate_all.new.desk.changes.items c.evaluate_awake.new.noted.items
-    c.evaluate_all.new.desk.done.items c.evaluate_all.ensures.evaluated c.evaluate_all.ensures.rest c.evaluate_awake.ensures.notes
+    (rooms c.args.workspace.now) c.requires.runnable c.args.wide.now _ c.requires.wide c.evaluate_all.new.agenda.marks
+    c.evaluate_all.new.workspace.changes.items c.evaluate_awake.new.noted.items
+    c.evaluate_all.new.workspace.done.items c.evaluate_all.ensures.evaluated c.evaluate_all.ensures.rest c.evaluate_awake.ensures.notes
 
 inside_all : (g : Over) (c : After-evaluate_awake g) → (change : Change) →
-    Contains (c.evaluate_all.new.desk.changes.items ++ c.evaluate_awake.new.noted.items) change → change.node < length c.args.bad.now
+    Contains (c.evaluate_all.new.workspace.changes.items ++ c.evaluate_awake.new.noted.items) change → change.node < length c.args.bad.now
 inside_all g c = changes_inside c.args.joining _ _ _ _ _ _ c.requires.runnable _ _ c.requires.wide _ (are_changes g c)
 
-agreed_all : (g : Over) (c : After-evaluate_awake g) → AreAgreed (c.evaluate_all.new.desk.changes.items ++ c.evaluate_awake.new.noted.items)
+agreed_all : (g : Over) (c : After-evaluate_awake g) → AreAgreed (c.evaluate_all.new.workspace.changes.items ++ c.evaluate_awake.new.noted.items)
 agreed_all g c = changes_agree c.args.joining _ _ _ _ _ _ c.requires.runnable _ _ c.requires.wide _ (are_changes g c)
 
 -- before the changes are taken over the lists are those of the states
@@ -98,7 +98,7 @@ follow_listed g c listed =
 pub write_all-requires : goal.write_all-requires
 write_all-requires g c =
     let at_end = goal.at.write_all-requires g c in
-    let xs = c.evaluate_all.new.desk.changes.items in
+    let xs = c.evaluate_all.new.workspace.changes.items in
     let ys = c.evaluate_awake.new.noted.items in
     record {
       inside = λ change there.
@@ -110,13 +110,13 @@ write_all-requires g c =
     }
 
 -- the first changes are written, and the others after them
-first_taken : (g : Over) (c : After-write_all g) → IsTaken c.evaluate_all.new.desk.changes.items c.follow.new.bad c.write_all.new.state
+first_taken : (g : Over) (c : After-write_all g) → IsTaken c.evaluate_all.new.workspace.changes.items c.follow.new.bad c.write_all.new.state
 first_taken g c = subst (λ xs. IsTaken xs c.follow.new.bad c.write_all.new.state) c.deref-2.ensures.value c.write_all.ensures.taken
 
 pub write_all-requires-2 : goal.write_all-requires-2
 write_all-requires-2 g c =
     let at_end = goal.at.write_all-requires-2 g c in
-    let xs = c.evaluate_all.new.desk.changes.items in
+    let xs = c.evaluate_all.new.workspace.changes.items in
     let ys = c.evaluate_awake.new.noted.items in
     let count = (first_taken g at_end.After-write_all).count in
     record {
@@ -130,11 +130,12 @@ write_all-requires-2 g c =
     }
 
 -- all of them are written
-own_taken : (g : Over) (c : After-write_all-2 g) → AreAgreed (c.evaluate_all.new.desk.changes.items ++ c.evaluate_awake.new.noted.items) →
-    IsTaken c.evaluate_all.new.desk.changes.items c.follow.new.bad c.write_all.new.state →
-    IsTaken (c.evaluate_all.new.desk.changes.items ++ c.evaluate_awake.new.noted.items) c.follow.new.bad c.write_all-2.new.state
+own_taken : (g : Over) (c : After-write_all-2 g) → AreAgreed (c.evaluate_all.new.workspace.changes.items ++ c.evaluate_awake.new.noted.items) →
+    IsTaken c.evaluate_all.new.workspace.changes.items c.follow.new.bad c.write_all.new.state →
+    IsTaken (c.evaluate_all.new.workspace.changes.items ++ c.evaluate_awake.new.noted.items) c.follow.new.bad c.write_all-2.new.state
 own_taken g c agreed first =
-    IsTaken-then c.evaluate_all.new.desk.changes.items c.evaluate_awake.new.noted.items c.follow.new.bad c.write_all.new.state c.write_all-2.new.state
+    IsTaken-then c.evaluate_all.new.workspace.changes.items c.evaluate_awake.new.noted.items c.follow.new.bad c.write_all.new.state
+    c.write_all-2.new.state
     agreed first (subst (λ ys. IsTaken ys c.write_all.new.state c.write_all-2.new.state) c.deref-3.ensures.value c.write_all-2.ensures.taken)
 
 -- the parts that a node concerns are there
@@ -167,7 +168,7 @@ pub notice-requires-2 : goal.notice-requires-2
 notice-requires-2 g c =
     let at_end = goal.at.notice-requires-2 g c in
     let own = own_taken g at_end.After-write_all-2 (agreed_all g at_end.After-evaluate_awake) (first_taken g at_end.After-write_all) in
-    let xs = c.evaluate_all.new.desk.changes.items in
+    let xs = c.evaluate_all.new.workspace.changes.items in
     let ys = c.evaluate_awake.new.noted.items in
     let before = c.notice.ensures.notices in
     record {
@@ -186,7 +187,7 @@ pub notice-requires-3 : goal.notice-requires-3
 notice-requires-3 g c =
     let at_end = goal.at.notice-requires-3 g c in
     let own = own_taken g at_end.After-write_all-2 (agreed_all g at_end.After-evaluate_awake) (first_taken g at_end.After-write_all) in
-    let xs = c.evaluate_all.new.desk.changes.items in
+    let xs = c.evaluate_all.new.workspace.changes.items in
     let ys = c.evaluate_awake.new.noted.items in
     let before = c.notice.ensures.notices in
     let then = c.notice-2.ensures.notices in
@@ -204,14 +205,14 @@ notice-requires-3 g c =
 
 -- what is noticed of all changes
 all_noticed : (g : Over) (c : After-notice-3 g) →
-    NoticesChanges (c.args.changes.now ++ (c.evaluate_all.new.desk.changes.items ++ c.evaluate_awake.new.noted.items)) c.args.owners.now c.args.readers.now
+    NoticesChanges (c.args.changes.now ++ (c.evaluate_all.new.workspace.changes.items ++ c.evaluate_awake.new.noted.items)) c.args.owners.now c.args.readers.now
     c.follow.new.good c.write_all-2.new.state c.args.apart.now.inside c.notice-3.new.apart.inside c.mark_again.new.agenda.marks c.notice-3.new.agenda.marks
 all_noticed g c =
     let owners = c.args.owners.now in
     let readers = c.args.readers.now in
     let good = c.follow.new.good in
     let bad = c.write_all-2.new.state in
-    let xs = c.evaluate_all.new.desk.changes.items in
+    let xs = c.evaluate_all.new.workspace.changes.items in
     let ys = c.evaluate_awake.new.noted.items in
     let two = rw c.deref-4.ensures.value at c.notice-2.ensures.notices in
     let three = rw c.deref-5.ensures.value at c.notice-3.ensures.notices in
@@ -226,17 +227,17 @@ returns-clause-good g c = c.follow.ensures.good
 pub returns-clause-moves : goal.returns-clause-moves
 returns-clause-moves g c =
     let at_end = goal.at.returns-clause-moves g c in
-    moves_beside c.args.joining c.args.parts.now c.args.agenda.now.marks c.args.agenda.now.waiting c.args.bad.now c.args.readers.now (rooms c.args.desk.now)
+    moves_beside c.args.joining c.args.parts.now c.args.agenda.now.marks c.args.agenda.now.waiting c.args.bad.now c.args.readers.now (rooms c.args.workspace.now)
     c.requires.runnable c.args.wide.now _ c.requires.wide c.waiting_parts_are_marked.ensures c.args.owners.now c.requires.owners c.args.apart.now.inside
     c.requires.marked _ (are_changes g at_end.After-evaluate_awake) c.args.changes.now c.follow.new.bad c.write_all-2.new.state c.follow.ensures.bad
     (own_taken g at_end.After-write_all-2 (agreed_all g at_end.After-evaluate_awake) (first_taken g at_end.After-write_all))
 
 -- all changes together turn the lists
-all_turned : (g : Over) (c : After-write_all-2 g) → After-evaluate_awake g → AreAgreed (c.evaluate_all.new.desk.changes.items ++ c.evaluate_awake.new.noted.items) →
-    IsTaken c.evaluate_all.new.desk.changes.items c.follow.new.bad c.write_all.new.state → NoneTwice c.args.bad.now c.follow.new.bad c.write_all-2.new.state →
+all_turned : (g : Over) (c : After-write_all-2 g) → After-evaluate_awake g → AreAgreed (c.evaluate_all.new.workspace.changes.items ++ c.evaluate_awake.new.noted.items) →
+    IsTaken c.evaluate_all.new.workspace.changes.items c.follow.new.bad c.write_all.new.state → NoneTwice c.args.bad.now c.follow.new.bad c.write_all-2.new.state →
     TurnedIn c.calm.new.wide c.write_all-2.new.wide c.args.bad.now c.write_all-2.new.state
 all_turned g c noted agreed first once_all =
-    let xs = c.evaluate_all.new.desk.changes.items in
+    let xs = c.evaluate_all.new.workspace.changes.items in
     let ys = c.evaluate_awake.new.noted.items in
     let next = subst (λ ys. IsTaken ys c.write_all.new.state c.write_all-2.new.state) c.deref-3.ensures.value c.write_all-2.ensures.taken in
     TurnedIn-then c.calm.new.wide c.follow.new.wide c.write_all-2.new.wide c.args.bad.now c.follow.new.bad c.write_all-2.new.state once_all
@@ -252,7 +253,7 @@ returns-clause-retouches g c =
     let agreed = agreed_all g at_end.After-evaluate_awake in
     let first = first_taken g at_end.After-write_all in
     let once_all = once c.args.joining c.args.parts.now c.args.agenda.now.marks c.args.agenda.now.waiting c.args.bad.now c.args.readers.now
-    (rooms c.args.desk.now) c.requires.runnable c.args.wide.now _ c.requires.wide c.waiting_parts_are_marked.ensures c.args.owners.now c.requires.owners
+    (rooms c.args.workspace.now) c.requires.runnable c.args.wide.now _ c.requires.wide c.waiting_parts_are_marked.ensures c.args.owners.now c.requires.owners
     c.args.apart.now.inside c.requires.marked _ (are_changes g at_end.After-evaluate_awake) c.args.changes.now c.follow.new.bad c.write_all-2.new.state
     c.follow.ensures.bad (own_taken g at_end.After-write_all-2 agreed first) in
     RetouchesIn-from c.args.joining c.args.wide.now c.calm.new.wide c.write_all-2.new.wide c.args.bad.now c.write_all-2.new.state
@@ -270,7 +271,7 @@ returns-clause-holds g c =
     let own = own_taken g at_end.After-write_all-2 agreed first in
     let count : length new ≡ length old = own.count ∙ c.follow.ensures.bad.count in
     let once_all = once c.args.joining c.args.parts.now c.args.agenda.now.marks c.args.agenda.now.waiting old c.args.readers.now
-    (rooms c.args.desk.now) c.requires.runnable c.args.wide.now _ c.requires.wide c.waiting_parts_are_marked.ensures c.args.owners.now c.requires.owners
+    (rooms c.args.workspace.now) c.requires.runnable c.args.wide.now _ c.requires.wide c.waiting_parts_are_marked.ensures c.args.owners.now c.requires.owners
     c.args.apart.now.inside c.requires.marked _ (are_changes g at_end.After-evaluate_awake) c.args.changes.now c.follow.new.bad new
     c.follow.ensures.bad own in
     let turned = all_turned g at_end.After-write_all-2 at_end.After-evaluate_awake agreed first once_all in
@@ -288,7 +289,7 @@ pub returns-clause-kept : goal.returns-clause-kept
 returns-clause-kept g c =
     let at_end = goal.at.returns-clause-kept g c in
     steps_keep c.args.owners.now c.args.readers.now c.args.apart.now.inside c.notice-3.new.apart.inside c.args.changes.now
-    (c.evaluate_all.new.desk.changes.items ++ c.evaluate_awake.new.noted.items) c.args.good.now c.follow.new.good c.args.bad.now c.follow.new.bad
+    (c.evaluate_all.new.workspace.changes.items ++ c.evaluate_awake.new.noted.items) c.args.good.now c.follow.new.good c.args.bad.now c.follow.new.bad
     c.write_all-2.new.state c.requires.kept c.follow.ensures.good c.follow.ensures.bad
     (own_taken g at_end.After-write_all-2 (agreed_all g at_end.After-evaluate_awake) (first_taken g at_end.After-write_all))
     (all_noticed g at_end.After-notice-3).apart
@@ -299,17 +300,17 @@ returns-clause-marks g c =
     let e = c.evaluate_all.ensures in
     let again = subst (λ xs. MarksAll (λ k. (c.args.joining ≡ true) × Contains xs k) c.evaluate_all.new.agenda.marks c.mark_again.new.agenda.marks)
     c.deref.ensures.value c.mark_again.ensures.marks in
-    remarks_beside c.args.joining c.args.parts.now c.args.agenda.now.marks c.args.agenda.now.waiting c.args.bad.now c.args.readers.now (rooms c.args.desk.now)
+    remarks_beside c.args.joining c.args.parts.now c.args.agenda.now.marks c.args.agenda.now.waiting c.args.bad.now c.args.readers.now (rooms c.args.workspace.now)
     c.requires.runnable c.args.wide.now _ c.requires.wide c.waiting_parts_are_marked.ensures c.args.owners.now c.requires.owners c.args.apart.now.inside
     c.requires.marked _ (are_changes g at_end.After-evaluate_awake) c.args.changes.now c.follow.new.bad c.write_all-2.new.state c.follow.ensures.bad
     (own_taken g at_end.After-write_all-2 (agreed_all g at_end.After-evaluate_awake) (first_taken g at_end.After-write_all))
     c.evaluate_all.new.agenda.marks c.mark_again.new.agenda.marks c.notice-3.new.agenda.marks c.notice-3.new.apart.inside
-    c.evaluate_all.new.desk.changes.items c.evaluate_all.new.desk.done.items c.follow.new.good e.evaluated e.count again (all_noticed g at_end.After-notice-3)
+    c.evaluate_all.new.workspace.changes.items c.evaluate_all.new.workspace.done.items c.follow.new.good e.evaluated e.count again (all_noticed g at_end.After-notice-3)
 
 pub returns-clause-rooms : goal.returns-clause-rooms
 returns-clause-rooms g c =
     c.evaluate_all.ensures.rooms
-    ∙ cleared_rooms c.args.desk.now c.clear.new.self c.clear-2.new.self c.clear.ensures.capacity c.clear-2.ensures.capacity
+    ∙ cleared_rooms c.args.workspace.now c.clear.new.self c.clear-2.new.self c.clear.ensures.capacity c.clear-2.ensures.capacity
 
 pub returns-clause-steps : goal.returns-clause-steps
 returns-clause-steps g c = record {
@@ -325,10 +326,10 @@ first_of changes some = let none : Change = record { node = 0; value = Zero } in
 pub returns-clause-changed : goal.returns-clause-changed
 returns-clause-changed g c =
     let at_end = goal.at.returns-clause-changed g c in
-    let xs = c.evaluate_all.new.desk.changes.items in
+    let xs = c.evaluate_all.new.workspace.changes.items in
     let ys = c.evaluate_awake.new.noted.items in
     let changes_it = own_moves c.args.joining c.args.parts.now c.args.agenda.now.marks c.args.agenda.now.waiting c.args.bad.now c.args.readers.now
-    (rooms c.args.desk.now) c.requires.runnable c.args.wide.now _ c.requires.wide c.waiting_parts_are_marked.ensures c.args.owners.now c.requires.owners
+    (rooms c.args.workspace.now) c.requires.runnable c.args.wide.now _ c.requires.wide c.waiting_parts_are_marked.ensures c.args.owners.now c.requires.owners
     c.args.apart.now.inside c.requires.marked _ (are_changes g at_end.After-evaluate_awake) c.args.changes.now c.follow.new.bad c.write_all-2.new.state
     c.follow.ensures.bad (own_taken g at_end.After-write_all-2 (agreed_all g at_end.After-evaluate_awake) (first_taken g at_end.After-write_all)) in
     let some : OnTrue c.is_any.result ((0 < length xs) ⊎ (0 < length ys)) = rw (c.deref-6.ensures.value, c.deref-7.ensures.value) at c.is_any.ensures.some in
@@ -341,13 +342,13 @@ returns-clause-changed g c =
 pub returns-clause-same : goal.returns-clause-same
 returns-clause-same g c =
     let at_end = goal.at.returns-clause-same g c in
-    let xs = c.evaluate_all.new.desk.changes.items in
+    let xs = c.evaluate_all.new.workspace.changes.items in
     let ys = c.evaluate_awake.new.noted.items in
     let none : OnFalse c.is_any.result ((length xs ≡ 0) × (length ys ≡ 0)) = rw (c.deref-6.ensures.value, c.deref-7.ensures.value) at c.is_any.ensures.none in
     OnFalse_from c.is_any.result (c.args.changes.now ≡ [] → c.write_all-2.new.state ≡ c.args.bad.now) (λ unset empty.
     let (no_first, no_second) = OnFalse_at {P = (length xs ≡ 0) × (length ys ≡ 0)} unset none in
     still_beside c.args.joining c.args.parts.now c.args.agenda.now.marks c.args.agenda.now.waiting c.args.bad.now c.args.readers.now
-    (rooms c.args.desk.now) c.requires.runnable c.args.wide.now _ c.requires.wide c.waiting_parts_are_marked.ensures c.args.owners.now c.requires.owners
+    (rooms c.args.workspace.now) c.requires.runnable c.args.wide.now _ c.requires.wide c.waiting_parts_are_marked.ensures c.args.owners.now c.requires.owners
     c.args.apart.now.inside c.requires.marked _ (are_changes g at_end.After-evaluate_awake) c.args.changes.now c.follow.new.bad c.write_all-2.new.state
     c.follow.ensures.bad (own_taken g at_end.After-write_all-2 (agreed_all g at_end.After-evaluate_awake) (first_taken g at_end.After-write_all))
     (ap length empty) (length-append xs ys ∙ omega (arith, no_first, no_second)))

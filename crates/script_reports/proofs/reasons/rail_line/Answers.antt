@@ -4,8 +4,8 @@ use Rattle.std.specs.Prelude.{MatchOption, Vec}
 use Rattle.std.specs.Option.{option_copied}
 use Rattle.std.specs.declared.alloc.Global.{Global}
 use Rattle.ternary.specs.declared.tern.Tern.{Tern}
-use Rattle.path_meaning.specs.declared.walks.Walk.{Walk}
-use Rattle.path_meaning.specs.Spread.{rail_of}
+use Rattle.switch_paths.specs.declared.walks.Walk.{Walk}
+use Rattle.switch_paths.specs.Spread.{rail_of}
 use Rattle.netlist.specs.Circuits.{CircuitData}
 use Rattle.why_path.specs.Reasons.{Explains}
 use Rattle.why_path.specs.Lines.{IsReasonLine, no_reason_line_of}

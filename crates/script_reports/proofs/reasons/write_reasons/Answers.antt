@@ -1,7 +1,7 @@
 -- The two lines are the text that is written.
 use Rattle.std.proofs.Common.{inr, [], refl, ap, subst, ◌∙◌}
 use Rattle.std.specs.Io.KnownBytes.{append_known}
-use Rattle.port_edge.specs.Sending.{WritesPart}
+use Rattle.ports.specs.Sending.{WritesPart}
 use Rattle.run_ends.specs.declared.status.Status.TheVariants as status
 use Rattle.script_reports.proofs.reasons.write_reasons.Goals as goal
 

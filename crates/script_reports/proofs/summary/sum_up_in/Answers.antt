@@ -1,9 +1,9 @@
 -- The script's lines are summed up from the start in the circuit.
 use Rattle.std.proofs.Common.{List, ℕ, count_by, is_some, sym, subst, ◌∙◌, refl}
-use Rattle.path_meaning.specs.Graphs.{nodes}
+use Rattle.switch_paths.specs.Graphs.{nodes}
 use Rattle.net_gen.specs.declared.families.GenPart.TheVariants.{Script}
 use Rattle.session_meaning.specs.Sessions.{SessionData}
-use Rattle.wave_print.specs.declared.lines.Summary.{Summary}
+use Rattle.printed_lines.specs.declared.lines.Summary.{Summary}
 use Rattle.line_words.specs.Files as file
 use Rattle.command_line.specs.Samples.{sample_seen, text_of}
 use Rattle.script_meaning.proofs.LowerLemmas.{ready-start}

@@ -1,7 +1,7 @@
 -- The line is the text that is written.
 use Rattle.std.proofs.Common.{List, ℕ, ap, refl, ◌∙◌, ◌++◌}
 use Rattle.std.specs.Io.KnownBytes.{append_known}
-use Rattle.wave_print.specs.Lines.{summary_line_of}
+use Rattle.printed_lines.specs.Lines.{summary_line_of}
 use Rattle.run_ends.specs.declared.status.Status.TheVariants as status
 use Rattle.run_ends.specs.Answers.{plain_answer}
 use Rattle.script_reports.proofs.summary.write_summary.Goals as goal

@@ -1,7 +1,7 @@
 -- Lines that weren't all obeyed were cut short, and what the printer was told of that is the line of the refusal.
 use Rattle.std.proofs.Common.{◌≢◌, Result, refl, subst, sym}
 use Rattle.netlist.specs.Circuits.{CircuitData}
-use Rattle.wave_print.specs.declared.faults.FaultPlace.TheVariants.{Script}
+use Rattle.printed_lines.specs.declared.faults.FaultPlace.TheVariants.{Script}
 use Rattle.told_lines.specs.Printing.{Page, print, PrintsPart}
 use Rattle.session_meaning.specs.Sessions.{SessionData}
 use Rattle.script_meaning.specs.declared.halt.Halt.{Halt}

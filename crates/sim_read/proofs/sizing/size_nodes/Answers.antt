@@ -1,7 +1,7 @@
 -- One node more has its level after the sizing.
 use Rattle.std.proofs.Common.{◌≡◌, ◌<◌, length, ap, subst, ◌∙◌, arith}
 use Rattle.std.proofs.lemmas.List.{get_or_read}
-use Rattle.path_meaning.specs.Graphs.{nodes}
+use Rattle.switch_paths.specs.Graphs.{nodes}
 use Rattle.sim_read.specs.Drafts.{DraftData, capacitance}
 use Rattle.sim_read.proofs.SizingLemmas.{IsSizedUpTo, sized_all, sized_more}
 use Rattle.sim_read.proofs.sizing.size_nodes.Goals as goal

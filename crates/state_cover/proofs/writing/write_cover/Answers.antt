@@ -1,8 +1,8 @@
 -- Each line that is sent takes the text one node on; at each exit what was sent is a part of it.
 use Rattle.std.proofs.Common.{◌≡◌, ◌+◌, ◌<◌, ◌∙◌, ap, arith}
-use Rattle.port_edge.proofs.ResultLemmas.{at_err}
-use Rattle.port_edge.proofs.SendingLemmas.{last_part, sends_more, sends_part}
-use Rattle.path_meaning.specs.Graphs.{nodes}
+use Rattle.ports.proofs.ResultLemmas.{at_err}
+use Rattle.ports.proofs.SendingLemmas.{last_part, sends_more, sends_part}
+use Rattle.switch_paths.specs.Graphs.{nodes}
 use Rattle.state_cover.specs.Lines.{cover_text}
 use Rattle.state_cover.proofs.TextLemmas.{text_from, line_is, sends_line, ends_ok, ends_part, answered}
 use Rattle.state_cover.proofs.writing.write_cover.Goals as goal

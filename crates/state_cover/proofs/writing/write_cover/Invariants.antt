@@ -1,6 +1,6 @@
 -- The lines of the nodes that were passed are written.
 use Rattle.std.proofs.Common.{◌≡◌}
-use Rattle.port_edge.specs.Sending.{Sends}
+use Rattle.ports.specs.Sending.{Sends}
 use Rattle.state_cover.specs.Lines.{cover_text}
 use Rattle.state_cover.proofs.TextLemmas.{text_from}
 use Rattle.state_cover.proofs.writing.write_cover.Given as goal

@@ -1,7 +1,7 @@
 -- Both rails of the next input stand behind those of the earlier ones.
 use Rattle.std.proofs.Common.{◌≡◌, true, false, set, ◌+◌, ◌*◌, ◌≤◌, ◌∷◌, ◌++◌, [], length, map, take, get_or, arith}
 use Rattle.std.proofs.lemmas.List.{map_more, length-set, take_all}
-use Rattle.path_meaning.specs.Switching.{state_at}
+use Rattle.switch_paths.specs.Switching.{state_at}
 use Rattle.straight_code.proofs.FlatLemmas.{rails_written, constants_written}
 use Rattle.straight_code.proofs.flat.fill_rails.Goals as goal
 

@@ -1,6 +1,6 @@
 -- So far the array begins with the constants and the rails of the inputs that were passed.
 use Rattle.std.proofs.Common.{◌≡◌, ◌+◌, ◌*◌, [], map, take}
-use Rattle.path_meaning.specs.Switching.{state_at}
+use Rattle.switch_paths.specs.Switching.{state_at}
 use Rattle.straight_code.specs.Flat.{flat_values}
 use Rattle.straight_code.proofs.flat.fill_rails.Given as goal
 

@@ -1,6 +1,6 @@
 -- A column's text is put behind those before it.
 use Rattle.std.proofs.Common.{◌≡◌, ℕ, ◌+◌, ◌≤◌, ◌++◌, List, length, sym, ap, ◌∙◌, append_assoc, length-append, arith}
-use Rattle.wave_print.specs.declared.lines.TheConstants.{COLUMN_ROOM, WAVE_LINE_ROOM}
+use Rattle.printed_lines.specs.declared.lines.TheConstants.{COLUMN_ROOM, WAVE_LINE_ROOM}
 use Rattle.told_lines.specs.Printing.{printed, text_printed}
 use Rattle.told_lines.specs.Rows.{wave_at}
 use Rattle.told_lines.proofs.RowLemmas.{row_left, text_left-next}

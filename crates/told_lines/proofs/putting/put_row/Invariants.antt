@@ -1,6 +1,6 @@
 -- The text of the columns before this one was put, and there is room for the others'.
 use Rattle.std.proofs.Common.{◌≡◌, ◌≤◌, ◌+◌, ◌-◌, ◌*◌, ◌++◌, length}
-use Rattle.wave_print.specs.declared.lines.TheConstants.{COLUMN_ROOM, WAVE_LINE_ROOM}
+use Rattle.printed_lines.specs.declared.lines.TheConstants.{COLUMN_ROOM, WAVE_LINE_ROOM}
 use Rattle.told_lines.specs.Printing.{text_printed}
 use Rattle.told_lines.specs.Rows.{wave_at, wave_row}
 use Rattle.told_lines.proofs.RowLemmas.{row_left}

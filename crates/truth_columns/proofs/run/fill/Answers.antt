@@ -2,7 +2,7 @@
 use Rattle.std.proofs.Common.{◌≡◌, ◌+◌, ◌*◌, ◌<◌, ◌≤◌, ◌∷◌, ◌++◌, [], length, map, take, get_or, set, subst, sym, ap, ◌∙◌, arith}
 use Rattle.std.proofs.lemmas.List.{map_more, length-set, take_all}
 use Rattle.std.proofs.lemmas.List.Elements.{All-set}
-use Rattle.path_meaning.specs.Switching.{state_at}
+use Rattle.switch_paths.specs.Switching.{state_at}
 use Rattle.truth_columns.proofs.ColumnLemmas.{constants_in_column, rails_in_column, high_at_node, low_at_node}
 use Rattle.truth_columns.proofs.run.fill.Goals as goal
 

@@ -1,7 +1,7 @@
 -- So far the array begins, in each column, with the constants and the rails of the inputs that were passed.
 use Rattle.std.proofs.Common.{◌≡◌, ℕ, ◌+◌, ◌*◌, ◌<◌, List, [], map, take, All}
 use Rattle.ternary.specs.declared.tern.Tern.{Tern}
-use Rattle.path_meaning.specs.Switching.{state_at}
+use Rattle.switch_paths.specs.Switching.{state_at}
 use Rattle.straight_code.specs.Flat.{flat_values}
 use Rattle.truth_columns.specs.Columns.{values_in, HasColumn}
 use Rattle.truth_columns.proofs.run.fill.Given as goal

@@ -12,5 +12,5 @@ returns g c =
       agenda_is = is.agenda_is;
       readers_are = rw c.truncate.ensures.items (AreLists-cut false count c.args.nodes gear.readers.items fewer is.readers_are);
       owners_are = rw c.truncate-2.ensures.items (AreLists-cut true count c.args.nodes gear.owners.items fewer is.owners_are);
-      desk_is = is.desk_is;
+      workspace_is = is.workspace_is;
     }

@@ -1,7 +1,7 @@
 -- The parts are those of the machine, and all that was made is of them.
 use Rattle.std.proofs.Common.{◌≡◌, ◌<◌, ℕ, true, false, length, sym, ap, subst, ◌∙◌, arith}
 use Rattle.std.specs.Prelude.{replicate}
-use Rattle.path_meaning.specs.Graphs.{nodes}
+use Rattle.switch_paths.specs.Graphs.{nodes}
 use Rattle.machine_parts.specs.Parts.{ReadsAt, IsStale}
 use Rattle.machine_laws.specs.Columns.{AreSeated}
 use Rattle.machine_laws.proofs.HeldLemmas.{coded_without}
@@ -60,6 +60,6 @@ returns g c =
           (subst (λ list. AreLists false list c.nodes-nodes.result c.in_ok-readers.readers.items) c.deref.ensures.value c.in_ok-readers.ensures);
       owners_are = subst (λ n. AreLists true parts n c.in_ok-owners.owners.items) count
           (subst (λ list. AreLists true list c.nodes-nodes.result c.in_ok-owners.owners.items) c.deref-2.ensures.value c.in_ok-owners.ensures);
-      room = subst (λ list. HasRoomFor list (rooms c.in_ok-desk.desk)) c.deref-3.ensures.value c.in_ok-desk.ensures.room;
-      desk_is = c.in_ok-desk.ensures.desk;
+      room = subst (λ list. HasRoomFor list (rooms c.in_ok-workspace.workspace)) c.deref-3.ensures.value c.in_ok-workspace.ensures.room;
+      workspace_is = c.in_ok-workspace.ensures.workspace;
     }

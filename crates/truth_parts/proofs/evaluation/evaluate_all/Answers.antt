@@ -20,7 +20,7 @@ loop-k-init g c = record {
       (Evaluated-none c.args.joining c.args.parts.now (g.T.Truths.columns c.args.truths.now) (g.T.Truths.holds c.args.truths.now) c.args.hi.now c.args.lo.now);
   own = rw c.requires.changes (All-nil (IsOf (g.T.Truths.has c.args.truths.now)));
   rooms = refl;
-  desk = c.requires.desk;
+  workspace = c.requires.workspace;
   changes_room = omega (arith, c.requires.changes_room, ap length c.requires.changes);
   done_room = omega (arith, c.requires.done_room, ap length c.requires.done);
 }
@@ -36,8 +36,8 @@ evaluate-requires-clause-seated g c =
     let k = c.in-Some.k in
     let so_far = c.loop-k.invariant in
     let inside : k < length c.args.parts.now = omega (arith, marked_inside c.loop-k.agenda k c.in-Some.ensures.marked, so_far.taken.count, c.requires.counted) in
-    let same : rooms c.loop-k.desk ≡ rooms c.args.desk.now = so_far.rooms in
-    let seated = subst (IsSeated (length c.args.hi.now) (rooms c.args.desk.now)) (sym c.index-parts-k.is) (c.requires.seated k c.index-parts-k.result inside) in
+    let same : rooms c.loop-k.workspace ≡ rooms c.args.workspace.now = so_far.rooms in
+    let seated = subst (IsSeated (length c.args.hi.now) (rooms c.args.workspace.now)) (sym c.index-parts-k.is) (c.requires.seated k c.index-parts-k.result inside) in
     record {
       other = seated.other;
       seated = seated.seated;
@@ -70,15 +70,15 @@ loop-k-preserved g c =
     let here : slice_index_or parts k part ≡ part = sym c.index-parts-k.is in
     let reports = c.in_ok-evaluate.ensures.changes parts k (record { inside = inside; here = here }) in
     let before = Evaluated-kept _ _ _ _ _ _ kept hi lo (All-kept _ _ _ _ _ _ hi so_far.kept c.requires.highs) (All-kept _ _ _ _ _ _ lo so_far.kept c.requires.lows)
-    c.args.joining parts c.loop-k.desk.changes.items c.loop-k.desk.done.items so_far.own so_far.evaluated in
-    let more = Evaluated-more c.args.joining parts (g.T.Truths.columns new) (g.T.Truths.holds new) hi lo c.loop-k.desk.changes.items c.evaluate.new.desk.changes.items
-    c.loop-k.desk.done.items k reports before in
-    let done_are : c.evaluate.new.desk.done.items ≡ c.loop-k.desk.done.items ++ k ∷ [] =
+    c.args.joining parts c.loop-k.workspace.changes.items c.loop-k.workspace.done.items so_far.own so_far.evaluated in
+    let more = Evaluated-more c.args.joining parts (g.T.Truths.columns new) (g.T.Truths.holds new) hi lo c.loop-k.workspace.changes.items c.evaluate.new.workspace.changes.items
+    c.loop-k.workspace.done.items k reports before in
+    let done_are : c.evaluate.new.workspace.done.items ≡ c.loop-k.workspace.done.items ++ k ∷ [] =
     ap (λ (list : Vec ℕ Global). list.items) c.evaluate.ensures.done ∙ c.push_reserved.ensures.items in
     let same = c.evaluate.ensures.rooms in
     record {
       kept = AreKept-trans _ _ _ _ _ _ _ _ _ so_far.kept kept;
-      taken = rw (cleared, done_are) (AreTaken-more c.args.agenda.now marks c.loop-k.desk.done.items k marked so_far.taken);
+      taken = rw (cleared, done_are) (AreTaken-more c.args.agenda.now marks c.loop-k.workspace.done.items k marked so_far.taken);
       evaluated = rw done_are more;
       own = c.evaluate.ensures.own;
       rooms = λ i. record {
@@ -87,7 +87,7 @@ loop-k-preserved g c =
         changes = (ap (λ (room : Rooms). room.changes) same ∙ ap (λ (room : Rooms). room.changes) so_far.rooms) i;
         parts = (ap (λ (room : Rooms). room.parts) same ∙ c.push_reserved.ensures.capacity ∙ ap (λ (room : Rooms). room.parts) so_far.rooms) i;
       };
-      desk = c.evaluate.ensures.desk;
+      workspace = c.evaluate.ensures.workspace;
       changes_room = rw cleared
           (omega (
             arith,
@@ -97,18 +97,18 @@ loop-k-preserved g c =
             ap (λ (room : Rooms). room.changes) same,
           ));
       done_room = rw (cleared, c.evaluate.ensures.done)
-          (done_room-more marks k c.loop-k.desk.done c.push_reserved.new.self marked so_far.done_room c.push_reserved.ensures.len c.push_reserved.ensures.capacity);
+          (done_room-more marks k c.loop-k.workspace.done c.push_reserved.new.self marked so_far.done_room c.push_reserved.ensures.len c.push_reserved.ensures.capacity);
     }
 
-pub evaluate-requires-clause-desk : goal.evaluate-requires-clause-desk
-evaluate-requires-clause-desk g c =
-    let desk = c.loop-k.invariant.desk in
-    record { even = desk.even; values = desk.values; highs = desk.highs; lows = desk.lows }
+pub evaluate-requires-clause-workspace : goal.evaluate-requires-clause-workspace
+evaluate-requires-clause-workspace g c =
+    let workspace = c.loop-k.invariant.workspace in
+    record { even = workspace.even; values = workspace.values; highs = workspace.highs; lows = workspace.lows }
 
 -- a part that was taken when the maker ran out is among those that are done
 pub returns-in_err-evaluate-clause-taken : goal.returns-in_err-evaluate-clause-taken
 returns-in_err-evaluate-clause-taken g c =
     let k = c.in-Some.k in
-    let done_are : c.evaluate.new.desk.done.items ≡ c.loop-k.desk.done.items ++ k ∷ [] =
+    let done_are : c.evaluate.new.workspace.done.items ≡ c.loop-k.workspace.done.items ++ k ∷ [] =
     ap (λ (list : Vec ℕ Global). list.items) c.evaluate.ensures.done ∙ c.push_reserved.ensures.items in
-    rw (c.in-Some.ensures.cleared, done_are) (AreTaken-more c.args.agenda.now c.loop-k.agenda c.loop-k.desk.done.items k c.in-Some.ensures.marked c.loop-k.invariant.taken)
+    rw (c.in-Some.ensures.cleared, done_are) (AreTaken-more c.args.agenda.now c.loop-k.agenda c.loop-k.workspace.done.items k c.in-Some.ensures.marked c.loop-k.invariant.taken)

@@ -5,10 +5,10 @@ use Rattle.std.proofs.lemmas.List.Elements.{All-take}
 use Rattle.truth_parts.proofs.evaluation.note_outputs.Goals as goal
 
 pub note_all-requires-clause-ones : goal.note_all-requires-clause-ones
-note_all-requires-clause-ones g c = rw c.deref.ensures.value (All-take (g.T.Truths.has c.args.truths.now) c.args.part.now.members _ c.requires.desk.highs)
+note_all-requires-clause-ones g c = rw c.deref.ensures.value (All-take (g.T.Truths.has c.args.truths.now) c.args.part.now.members _ c.requires.workspace.highs)
 
 pub note_all-requires-clause-others : goal.note_all-requires-clause-others
-note_all-requires-clause-others g c = rw c.deref-2.ensures.value (All-take (g.T.Truths.has c.args.truths.now) c.args.part.now.members _ c.requires.desk.lows)
+note_all-requires-clause-others g c = rw c.deref-2.ensures.value (All-take (g.T.Truths.has c.args.truths.now) c.args.part.now.members _ c.requires.workspace.lows)
 
 pub returns-clause-changes : goal.returns-clause-changes
 returns-clause-changes g c =

@@ -1,7 +1,7 @@
 -- In each column the code runs on the inputs' states, and the outputs have its rails.
 use Rattle.std.proofs.Common.{◌≡◌, ◌+◌, ◌*◌, ◌<◌, length, map, take, sym, ap, ◌∙◌, arith}
 use Rattle.std.proofs.lemmas.List.{length-map}
-use Rattle.path_meaning.specs.Switching.{state_at}
+use Rattle.switch_paths.specs.Switching.{state_at}
 use Rattle.truth_columns.specs.Columns.{values_in}
 use Rattle.truth_columns.proofs.ColumnLemmas.{All-kept}
 use Rattle.truth_parts.proofs.evaluation.run_front.Goals as goal

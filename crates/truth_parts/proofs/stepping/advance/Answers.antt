@@ -19,15 +19,15 @@ evaluate_all-requires g c =
     let runs = c.requires.runnable in
     let parts = c.args.parts.now in
     let marks = c.args.agenda.now in
-    let desk = c.requires.desk in
-    let same = cleared_rooms c.args.desk.now c.clear.new.self c.clear-2.new.self c.clear.ensures.capacity c.clear-2.ensures.capacity in
+    let workspace = c.requires.workspace in
+    let same = cleared_rooms c.args.workspace.now c.clear.new.self c.clear-2.new.self c.clear.ensures.capacity c.clear-2.ensures.capacity in
     record {
       counted = runs.counted;
       rails = c.requires.rails;
       highs = c.requires.highs;
       lows = c.requires.lows;
       seated = λ k d inside. subst (λ room. IsSeated (length c.args.hi.now) room (slice_index_or parts k d)) (sym same) (runs.seated k d inside);
-      desk = record { even = desk.even; values = desk.values; highs = desk.highs; lows = desk.lows };
+      workspace = record { even = workspace.even; values = workspace.values; highs = workspace.highs; lows = workspace.lows };
       changes = c.clear.ensures.items;
       done = c.clear-2.ensures.items;
       changes_room = omega (arith, marked_sum-within members_of parts marks, runs.changes_room, c.clear.ensures.capacity);
@@ -64,8 +64,8 @@ returns-in-Ok-clause-columns g c =
     let lo = c.args.lo.now in
     let readers = c.args.readers.now in
     let new = c.evaluate_all.new.truths in
-    let changes = c.evaluate_all.new.desk.changes.items in
-    let done = c.evaluate_all.new.desk.done.items in
+    let changes = c.evaluate_all.new.workspace.changes.items in
+    let done = c.evaluate_all.new.workspace.done.items in
     let first = c.evaluate_all.new.agenda in
     let second = c.mark_again.new.agenda in
     let third = c.take_over.new.agenda in
@@ -75,7 +75,7 @@ returns-in-Ok-clause-columns g c =
     let again = subst (λ xs. MarksAll (λ k. (joining ≡ true) × Contains xs k) first second) c.deref.ensures.value c.mark_again.ensures in
     let read = subst (λ xs. MarksAll (ReadsAny readers xs) second third) c.deref-in-Ok.ensures.value c.take_over.ensures.marks in
     let empty = c.is_empty.result in
-    let count = vec_len c.evaluate_all.new.desk.changes in
+    let count = vec_len c.evaluate_all.new.workspace.changes in
     let counted : count ≡ length changes = omega arith in
     StepsInAll-taken joining (g.T.Truths.columns new) (g.T.Truths.holds new) parts c.args.agenda.now hi lo readers _ c.requires.runnable c.requires.rails first changes
     done c.evaluate_all.ensures.taken c.in-Ok.ensures.evaluated c.in-Ok.ensures.rest new_hi new_lo written second third again read (not empty)
@@ -86,7 +86,7 @@ returns-in-Ok-clause-highs g c =
     let has = g.T.Truths.has c.evaluate_all.new.truths in
     let kept = c.evaluate_all.ensures.kept in
     let written = subst (λ xs. AreWritten xs c.args.hi.now c.args.lo.now c.take_over.new.hi c.take_over.new.lo) c.deref-in-Ok.ensures.value c.take_over.ensures.written in
-    (All-written has c.evaluate_all.new.desk.changes.items c.args.hi.now c.args.lo.now c.take_over.new.hi c.take_over.new.lo c.evaluate_all.ensures.own
+    (All-written has c.evaluate_all.new.workspace.changes.items c.args.hi.now c.args.lo.now c.take_over.new.hi c.take_over.new.lo c.evaluate_all.ensures.own
     (All-kept _ _ _ _ _ _ c.args.hi.now kept c.requires.highs) (All-kept _ _ _ _ _ _ c.args.lo.now kept c.requires.lows) written).0
 
 pub returns-in-Ok-clause-lows : goal.returns-in-Ok-clause-lows
@@ -94,7 +94,7 @@ returns-in-Ok-clause-lows g c =
     let has = g.T.Truths.has c.evaluate_all.new.truths in
     let kept = c.evaluate_all.ensures.kept in
     let written = subst (λ xs. AreWritten xs c.args.hi.now c.args.lo.now c.take_over.new.hi c.take_over.new.lo) c.deref-in-Ok.ensures.value c.take_over.ensures.written in
-    (All-written has c.evaluate_all.new.desk.changes.items c.args.hi.now c.args.lo.now c.take_over.new.hi c.take_over.new.lo c.evaluate_all.ensures.own
+    (All-written has c.evaluate_all.new.workspace.changes.items c.args.hi.now c.args.lo.now c.take_over.new.hi c.take_over.new.lo c.evaluate_all.ensures.own
     (All-kept _ _ _ _ _ _ c.args.hi.now kept c.requires.highs) (All-kept _ _ _ _ _ _ c.args.lo.now kept c.requires.lows) written).1
 
 pub put_back-requires : goal.put_back-requires
@@ -117,9 +117,9 @@ returns-in-Err-clause-lows g c = All-kept _ _ _ _ _ _ c.args.lo.now c.evaluate_a
 pub returns-in-Ok-clause-rooms : goal.returns-in-Ok-clause-rooms
 returns-in-Ok-clause-rooms g c =
     c.evaluate_all.ensures.rooms
-    ∙ cleared_rooms c.args.desk.now c.clear.new.self c.clear-2.new.self c.clear.ensures.capacity c.clear-2.ensures.capacity
+    ∙ cleared_rooms c.args.workspace.now c.clear.new.self c.clear-2.new.self c.clear.ensures.capacity c.clear-2.ensures.capacity
 
 pub returns-in-Err-clause-rooms : goal.returns-in-Err-clause-rooms
 returns-in-Err-clause-rooms g c =
     c.evaluate_all.ensures.rooms
-    ∙ cleared_rooms c.args.desk.now c.clear.new.self c.clear-2.new.self c.clear.ensures.capacity c.clear-2.ensures.capacity
+    ∙ cleared_rooms c.args.workspace.now c.clear.new.self c.clear-2.new.self c.clear.ensures.capacity c.clear-2.ensures.capacity

@@ -3,7 +3,7 @@ use Rattle.std.proofs.Common.{◌<◌, inl, length, refl, subst, sym, ◌∙◌,
 use Rattle.machine_parts.proofs.MarkLemmas.{MarksAll-reached}
 use Rattle.part_lists.specs.Listing.{listed_at}
 use Rattle.part_lists.proofs.ListLemmas.{list_read}
-use Rattle.truth_parts.specs.declared.desk.TruthChange.{TruthChange}
+use Rattle.truth_parts.specs.declared.workspace.TruthChange.{TruthChange}
 use Rattle.truth_parts.proofs.TakingLemmas.{AreWritten-none, AreWritten-more}
 use Rattle.truth_parts.proofs.taking.take_over.Goals as goal
 

@@ -1,7 +1,7 @@
 -- The nodes so far have the same states in both runs.
 use Rattle.std.proofs.Common.{◌≡◌, ℕ, take}
 use Rattle.std.specs.Prelude.{Contains}
-use Rattle.path_meaning.specs.Switching.{state_at}
+use Rattle.switch_paths.specs.Switching.{state_at}
 use Rattle.unit_step.proofs.beside.agree_on.Given as goal
 
 abbrev pub invariant-loop-node : goal.invariant-loop-node

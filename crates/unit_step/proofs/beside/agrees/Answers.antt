@@ -3,12 +3,12 @@ use Rattle.std.proofs.Common.{◌≡◌, ℕ, inl, inr, ◌⊎◌, List, take, s
 use Rattle.std.specs.Prelude.{Contains}
 use Rattle.std.proofs.lemmas.Bool.{OnTrue_from, OnTrue_at}
 use Rattle.ternary.specs.declared.tern.Tern.{Tern}
-use Rattle.path_meaning.specs.Switching.{state_at}
-use Rattle.machine_parts.specs.declared.part.HeldPart.{HeldPart}
+use Rattle.switch_paths.specs.Switching.{state_at}
+use Rattle.machine_parts.specs.declared.part.MachinePart.{MachinePart}
 use Rattle.unit_step.proofs.beside.agrees.Goals as goal
 
 -- the part's members and what it reads have the same states in both runs
-abbrev AgreesOn : HeldPart → List Tern → List Tern → Type 0
+abbrev AgreesOn : MachinePart → List Tern → List Tern → Type 0
 AgreesOn part good bad =
     (node : ℕ) → Contains (take part.members part.map.items) node ⊎ Contains part.reads.items node → state_at bad node ≡ state_at good node
 

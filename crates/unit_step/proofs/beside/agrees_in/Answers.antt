@@ -2,8 +2,8 @@
 use Rattle.std.proofs.Common.{◌≡◌, ℕ, inl, inr, sym, subst}
 use Rattle.std.specs.Prelude.{Contains}
 use Rattle.std.proofs.lemmas.Bool.{OnTrue_from, OnTrue_at}
-use Rattle.machine_parts.specs.declared.part.HeldPart.{HeldPart}
-use Rattle.path_meaning.specs.Switching.{state_at}
+use Rattle.machine_parts.specs.declared.part.MachinePart.{MachinePart}
+use Rattle.switch_paths.specs.Switching.{state_at}
 use Rattle.machine_parts.specs.Parts.{Stands}
 use Rattle.machine_parts.specs.Stepping.{Concerns}
 use Rattle.machine_parts.proofs.PartLemmas.{same_part}
@@ -31,5 +31,5 @@ returns c =
       | inl has ↦ inl (member_taken c.args.parts.now c.args.k part stands node has)
       | inr reads ↦
           let same = same_part c.args.parts.now c.args.k reads.part part reads.stands stands in
-          inr (subst (λ (p : HeldPart). Contains p.reads.items node) same reads.reads)
+          inr (subst (λ (p : MachinePart). Contains p.reads.items node) same reads.reads)
     ]))

@@ -5,8 +5,8 @@ use Rattle.std.proofs.lemmas.List.{length-replicate}
 use Rattle.unit_step.proofs.BodyLemmas.{coded_inside, waits_coded}
 use Rattle.unit_step.proofs.body.agenda_of.Goals as goal
 
-pub rouse-requires : goal.rouse-requires
-rouse-requires c =
+pub make_ready-requires : goal.make_ready-requires
+make_ready-requires c =
     let parts = c.args.parts.now in
     let inside = coded_inside parts c.in_ok-coded.coded.items c.in_ok-coded.ensures in
     let all : 0 + length parts ≡ length parts = omega arith in
@@ -18,5 +18,5 @@ returns-clause-waiting c =
     let parts = c.args.parts.now in
     let all = waits_coded parts c.in_ok-coded.coded.items (length parts) refl c.requires.some c.in_ok-coded.ensures in
     let waiting : c.in_ok-agenda.agenda.waiting ≡ replicate (length parts) true = c.in_ok-agenda.ensures.waiting in
-    let freed = rw (c.deref.ensures.value, waiting) at c.rouse.ensures.waiting in
+    let freed = rw (c.deref.ensures.value, waiting) at c.make_ready.ensures.waiting in
     λ k. (λ marked. (all k).0 ((freed k).0 marked), λ stale. (freed k).1 ((all k).1 stale))

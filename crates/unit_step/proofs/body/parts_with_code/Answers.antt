@@ -3,7 +3,7 @@ use Rattle.std.proofs.Common.{◌≡◌, inl, inr, Some, length, refl, sym, ap, 
 use Rattle.std.specs.Prelude.{◌≢◌, Contains, None, slice_get}
 use Rattle.std.proofs.lemmas.Bool.{cases_eq}
 use Rattle.std.proofs.lemmas.Option.{slice_get_read, slice_get_within}
-use Rattle.machine_parts.specs.declared.part.HeldPart.{HeldPart}
+use Rattle.machine_parts.specs.declared.part.MachinePart.{MachinePart}
 use Rattle.unit_step.specs.Bodies.{IsCodedAt}
 use Rattle.unit_step.proofs.LongLemmas.{added, added_stays, added_itself, is_there, there_is}
 use Rattle.unit_step.proofs.body.parts_with_code.Goals as goal
@@ -30,7 +30,7 @@ loop-k-preserved c =
             | inl same ↦
                 let both : Some other ≡ Some part = sym other_at ∙ (ap (slice_get parts) same ∙ at) in
                 let is : other ≡ part = cc in
-                let has_code : part.code ≢ None = subst (λ (one : HeldPart). one.code ≢ None) is coded in
+                let has_code : part.code ≢ None = subst (λ (one : MachinePart). one.code ≢ None) is coded in
                 subst (Contains new) (sym same) (added_itself has k old new grown (c.is_some.ensures ∙ there_is part.code has_code))
             | inr differs ↦ added_stays has k old new n grown (c.loop-k.invariant.all n other (omega (arith, before, differs)) other_at coded)
           ];

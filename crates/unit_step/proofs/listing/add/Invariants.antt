@@ -1,6 +1,6 @@
 -- The changes so far are listed.
 use Rattle.std.proofs.Common.{◌≡◌, ◌++◌, take}
-use Rattle.part_steps.specs.Desks.{nodes_noted}
+use Rattle.part_steps.specs.Workspaces.{nodes_noted}
 use Rattle.unit_step.proofs.listing.add.Given as goal
 
 abbrev pub invariant-loop-change : goal.invariant-loop-change

@@ -3,7 +3,7 @@ use Rattle.std.proofs.Common.{◌≡◌, inl, inr, Some, get_or, length, refl, s
 use Rattle.std.specs.Prelude.{◌≢◌, Contains, None, slice_get}
 use Rattle.std.proofs.lemmas.Bool.{cases_eq}
 use Rattle.std.proofs.lemmas.Option.{slice_get_read, slice_get-get_or, slice_get_within}
-use Rattle.machine_parts.specs.declared.part.HeldPart.{HeldPart}
+use Rattle.machine_parts.specs.declared.part.MachinePart.{MachinePart}
 use Rattle.unit_step.proofs.LongLemmas.{added, added_stays, added_itself, is_there, there_is}
 use Rattle.unit_step.proofs.long.coded_of.Goals as goal
 
@@ -39,7 +39,7 @@ loop-place-preserved c =
                 let is : other ≡ part = cc in
                 let slots_both : Some slot ≡ Some k = sym slot_at ∙ (ap (slice_get slots) (sym same) ∙ slot_is) in
                 let slot_same : slot ≡ k = cc in
-                let has_code : part.code ≢ None = subst (λ (one : HeldPart). one.code ≢ None) is coded in
+                let has_code : part.code ≢ None = subst (λ (one : MachinePart). one.code ≢ None) is coded in
                 subst (λ n. Contains new n) slot_same (added_itself has slot old new grown (c.is_some.ensures ∙ there_is part.code has_code))
             | inr differs ↦
                 added_stays has slot old new k grown (c.loop-place.invariant.all k i other (omega (arith, before, differs)) slot_is other_at coded)

@@ -3,7 +3,7 @@ use Rattle.std.proofs.Common.{◌≡◌, ℕ, ◌<◌, Vec, Global, get_or, leng
 use Rattle.std.specs.Prelude.{slice_index}
 use Rattle.std.proofs.lemmas.List.{get_or_default}
 use Rattle.std.proofs.lemmas.Option.{slice_get-get_or}
-use Rattle.machine_parts.specs.declared.part.HeldPart.{HeldPart}
+use Rattle.machine_parts.specs.declared.part.MachinePart.{MachinePart}
 use Rattle.wide_groups.specs.Staying.{HoldsNode}
 use Rattle.unit_step.proofs.LongLemmas.{same_map, Loosens-same, Loosens-set, up_to-set}
 use Rattle.unit_step.proofs.long.loosen_waking.Goals as goal
@@ -41,5 +41,5 @@ loop-place-preserved c =
       loosens = Loosens-set c.args.parts.now parts place part c.loosen_if.new.part at c.loosen_if.ensures.loosens loosens;
       held = up_to-set wide place parts part c.loosen_if.new.part at c.loosen_if.ensures.loosens
           (λ holds. c.loosen_if.ensures.code (c.goes_without-loose.ensures
-          (subst (λ (one : HeldPart). HoldsNode wide (slice_index one.map.items 0)) same holds))) c.loop-place.invariant.held;
+          (subst (λ (one : MachinePart). HoldsNode wide (slice_index one.map.items 0)) same holds))) c.loop-place.invariant.held;
     }

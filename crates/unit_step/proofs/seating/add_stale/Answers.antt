@@ -3,16 +3,16 @@ use Rattle.std.proofs.Common.{◌≡◌, ◌+◌, List, [], ◌∷◌, ◌++◌,
 use Rattle.std.specs.List.{AllZip}
 use Rattle.std.proofs.lemmas.List.{take_all, replicate_more}
 use Rattle.group_meaning.specs.Groups.{Group}
-use Rattle.machine_parts.specs.declared.part.HeldPart.{HeldPart}
+use Rattle.machine_parts.specs.declared.part.MachinePart.{MachinePart}
 use Rattle.circuit_texts.specs.Choosing.{chosen}
 use Rattle.circuit_texts.proofs.ChosenLemmas.{chosen-more}
 use Rattle.machine_laws.specs.Seating.{AddsStale, IsStalePartOf}
 use Rattle.unit_step.proofs.seating.add_stale.Goals as goal
 
 -- a stale part more for one group more
-zip_more : (groups : List Group) (parts : List HeldPart) (group : Group) (part : HeldPart) →
-    AllZip (λ (one : Group) (its : HeldPart). IsStalePartOf one.members its) groups parts → IsStalePartOf group.members part →
-    AllZip (λ (one : Group) (its : HeldPart). IsStalePartOf one.members its) (groups ++ group ∷ []) (parts ++ part ∷ [])
+zip_more : (groups : List Group) (parts : List MachinePart) (group : Group) (part : MachinePart) →
+    AllZip (λ (one : Group) (its : MachinePart). IsStalePartOf one.members its) groups parts → IsStalePartOf group.members part →
+    AllZip (λ (one : Group) (its : MachinePart). IsStalePartOf one.members its) (groups ++ group ∷ []) (parts ++ part ∷ [])
 zip_more [] [] group part are is = (is, tt)
 zip_more [] (x ∷ parts) group part are is = absurd are
 zip_more (x ∷ groups) [] group part are is = absurd are
@@ -41,7 +41,7 @@ loop-id-preserved c =
       within = omega (arith, c.loop-id-test.true);
       adds = record {
         more = before.more ++ part ∷ [];
-        are = subst (λ all. AllZip (λ (one : Group) (its : HeldPart). IsStalePartOf one.members its) all (before.more ++ part ∷ [])) (sym grown)
+        are = subst (λ all. AllZip (λ (one : Group) (its : MachinePart). IsStalePartOf one.members its) all (before.more ++ part ∷ [])) (sym grown)
             (zip_more (chosen groups (take i ids)) before.more group part before.are is);
         parts = pushed ∙ (ap (λ list. list ++ part ∷ []) before.parts ∙ append_assoc c.args.parts.now.items before.more (part ∷ []));
       };

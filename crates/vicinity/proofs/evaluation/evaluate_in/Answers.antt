@@ -1,6 +1,6 @@
 -- The first pass tells what is beaten; with it the other two tell the steady states.
 use Rattle.std.proofs.Common.{arith, rules}
-use Rattle.path_meaning.specs.Step.{IsResponse}
+use Rattle.switch_paths.specs.Step.{IsResponse}
 use Rattle.vicinity.specs.NodeSets.{IsIn}
 use Rattle.vicinity.specs.Entries.{AreBest}
 use Rattle.vicinity.specs.Touching.{IsAwake}

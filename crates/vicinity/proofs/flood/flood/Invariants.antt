@@ -2,7 +2,7 @@
 use Rattle.vicinity.specs.Spreading.{sum_below, cost_at}
 use Rattle.std.proofs.Common.{◌≡◌, ◌≤◌, ◌-◌, length, take, ◌+◌}
 use Rattle.std.specs.Prelude.{Contains, slice_index}
-use Rattle.path_meaning.specs.Graphs.{nodes}
+use Rattle.switch_paths.specs.Graphs.{nodes}
 use Rattle.vicinity.specs.Flooding.{Wakes, IsFlooding}
 use Rattle.vicinity.proofs.flood.flood.Given as goal
 

@@ -1,7 +1,7 @@
 -- What is asleep afterwards rests, and no more is touched than what the node stirs.
 use Rattle.std.proofs.Common.{ℕ, inl, inr, refl, sym, subst}
 use Rattle.std.specs.Prelude.{slice_set}
-use Rattle.path_meaning.specs.Graphs.{IsStorage}
+use Rattle.switch_paths.specs.Graphs.{IsStorage}
 use Rattle.vicinity.specs.Arms.{ListsLive}
 use Rattle.vicinity.specs.Touching.{SwitchChanges, RestsAsleep}
 use Rattle.vicinity.specs.NodeSets.{IsIn}

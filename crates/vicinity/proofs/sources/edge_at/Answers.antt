@@ -1,8 +1,8 @@
 -- If no arm leads to a node nothing comes; and what comes over one is what a path brings.
 use Rattle.std.proofs.Common.{◌≡◌, min, inl, inr, sym, ◌∙◌, subst, arith}
 use Rattle.strength_order.specs.declared.TheConstants.{INPUT_LEVEL}
-use Rattle.path_meaning.specs.Switching.{state_at}
-use Rattle.path_meaning.specs.Graphs.{level_of}
+use Rattle.switch_paths.specs.Switching.{state_at}
+use Rattle.switch_paths.specs.Graphs.{level_of}
 use Rattle.group_meaning.proofs.LinkLemmas.{Joins-sym}
 use Rattle.vicinity.specs.Arms.{LeadsTo}
 use Rattle.vicinity.specs.Entries.{IsWay, own_strength}

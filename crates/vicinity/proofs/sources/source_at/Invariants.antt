@@ -1,8 +1,8 @@
 -- The entry is what a path brings, and has the node's own strength and what comes over the places so far.
 use Rattle.std.proofs.Common.{◌≡◌, ℕ, ◌+◌, ◌<◌, take}
 use Rattle.std.specs.Prelude.{Contains}
-use Rattle.path_meaning.specs.Switching.{state_at}
-use Rattle.path_meaning.specs.Graphs.{level_of}
+use Rattle.switch_paths.specs.Switching.{state_at}
+use Rattle.switch_paths.specs.Graphs.{level_of}
 use Rattle.vicinity.specs.Entries.{own_strength, HasAbove, IsWay}
 use Rattle.vicinity.specs.Sources.{HasEdge}
 use Rattle.vicinity.proofs.sources.source_at.Given as goal

@@ -1,6 +1,6 @@
 -- The switch changes: both its ends are touched.
 use Rattle.std.proofs.Common.{◌≢◌, sym, ◌∙◌}
-use Rattle.path_meaning.specs.Switching.{state_by}
+use Rattle.switch_paths.specs.Switching.{state_by}
 use Rattle.vicinity.proofs.TouchLemmas.{Wakes-turns, apart_states}
 use Rattle.vicinity.proofs.touching.touch_at.Goals as goal
 

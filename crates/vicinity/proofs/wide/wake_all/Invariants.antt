@@ -1,6 +1,6 @@
 -- The storage nodes so far came to the set.
 use Rattle.std.proofs.Common.{◌≡◌, ℕ, ◌<◌, length}
-use Rattle.path_meaning.specs.Graphs.{IsStorage}
+use Rattle.switch_paths.specs.Graphs.{IsStorage}
 use Rattle.vicinity.specs.NodeSets.{IsIn}
 use Rattle.vicinity.proofs.wide.wake_all.Given as goal
 

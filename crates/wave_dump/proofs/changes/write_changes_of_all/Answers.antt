@@ -1,7 +1,7 @@
 -- One entry after the other.
 use Rattle.std.proofs.Common.{◌<◌, ◌∙◌, ℕ, length, All, refl, sym, subst, arith}
-use Rattle.oscillation_x.specs.PlainStepping.{numbers_from}
-use Rattle.oscillation_x.proofs.NumbersLemmas.{numbers-count}
+use Rattle.settling.specs.PlainStepping.{numbers_from}
+use Rattle.settling.proofs.NumbersLemmas.{numbers-count}
 use Rattle.wave_dump.specs.Changes.{TakesValue}
 use Rattle.wave_dump.specs.Entries.{IsInside, entries_of, shown_of}
 use Rattle.wave_dump.specs.Values.{values_in}

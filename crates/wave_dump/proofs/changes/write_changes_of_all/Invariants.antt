@@ -1,6 +1,6 @@
 -- The changes of the first entries are written.
 use Rattle.std.proofs.Common.{◌≡◌, length}
-use Rattle.oscillation_x.specs.PlainStepping.{numbers_from}
+use Rattle.settling.specs.PlainStepping.{numbers_from}
 use Rattle.wave_dump.specs.Entries.{entries_of, shown_of}
 use Rattle.wave_dump.specs.Values.{values_in}
 use Rattle.wave_dump.proofs.MarkedLemmas.{ChangesSoFar}

@@ -1,9 +1,9 @@
 -- One hop more, the first stand at which something stronger leads, and the end of the walk.
 use Rattle.std.proofs.Common.{◌+◌, refl, arith}
 use Rattle.std.proofs.lemmas.List.{take_all}
-use Rattle.path_meaning.specs.Path.{at_root, IsBlocked}
-use Rattle.path_meaning.specs.Walks.{stand_of}
-use Rattle.path_meaning.proofs.PathLemmas.{Goes, unblocked-from_Goes}
+use Rattle.switch_paths.specs.Path.{at_root, IsBlocked}
+use Rattle.switch_paths.specs.Walks.{stand_of}
+use Rattle.switch_paths.proofs.PathLemmas.{Goes, unblocked-from_Goes}
 use Rattle.why_path.proofs.BlockingLemmas.{led, led_on, blocks, goes_more, leads_more}
 use Rattle.why_path.proofs.blocking.is_free.Goals as goal
 

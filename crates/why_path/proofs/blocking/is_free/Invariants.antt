@@ -1,8 +1,8 @@
 -- The walk so far isn't blocked, and what is left of it leads on.
 use Rattle.std.proofs.Common.{take, drop}
-use Rattle.path_meaning.specs.Path.{Stand, Leads, at_root}
-use Rattle.path_meaning.specs.Walks.{stand_of}
-use Rattle.path_meaning.proofs.PathLemmas.{Goes}
+use Rattle.switch_paths.specs.Path.{Stand, Leads, at_root}
+use Rattle.switch_paths.specs.Walks.{stand_of}
+use Rattle.switch_paths.proofs.PathLemmas.{Goes}
 use Rattle.why_path.proofs.blocking.is_free.Given as goal
 
 abbrev pub invariant-loop-place : goal.invariant-loop-place

@@ -1,7 +1,7 @@
 -- One place more, and all places.
 use Rattle.std.proofs.Common.{◌≡◌, ◌∙◌, inl, inr, arith}
 use Rattle.std.proofs.lemmas.Bool.{cases_lt}
-use Rattle.path_meaning.proofs.PathLemmas.{place_inside}
+use Rattle.switch_paths.proofs.PathLemmas.{place_inside}
 use Rattle.why_path.proofs.ends.ends_of.Goals as goal
 
 pub loop-place-preserved : goal.loop-place-preserved

@@ -1,8 +1,8 @@
 -- The places so far are in the lists of both ends of their switches.
 use Rattle.std.proofs.Common.{◌≡◌, ℕ, ◌<◌, length, Some}
 use Rattle.std.specs.Prelude.{Contains}
-use Rattle.path_meaning.specs.declared.switching.Switch.{Switch}
-use Rattle.path_meaning.specs.Graphs.{nodes, place_at}
+use Rattle.switch_paths.specs.declared.switching.Switch.{Switch}
+use Rattle.switch_paths.specs.Graphs.{nodes, place_at}
 use Rattle.why_path.specs.Search.{list_at}
 use Rattle.why_path.proofs.ends.ends_of.Given as goal
 

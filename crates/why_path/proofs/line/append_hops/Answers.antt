@@ -1,7 +1,7 @@
 -- One hop more.
 use Rattle.std.proofs.Common.{◌+◌, ◌++◌, ◌∷◌, [], get_or}
-use Rattle.path_meaning.specs.Walks.{stand_of}
-use Rattle.path_meaning.specs.Path.{Hop, at_root}
+use Rattle.switch_paths.specs.Walks.{stand_of}
+use Rattle.switch_paths.specs.Path.{Hop, at_root}
 use Rattle.netlist.specs.Circuits.{called}
 use Rattle.why_path.proofs.BlockingLemmas.{led, led_on}
 use Rattle.why_path.proofs.LineLemmas.{hops_text-more, AreTold-next}

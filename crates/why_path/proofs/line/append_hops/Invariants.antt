@@ -1,7 +1,7 @@
 -- The hops so far are told, and what is left of the walk leads on.
 use Rattle.std.proofs.Common.{◌≡◌, ℕ, List, ◌++◌, take, drop}
-use Rattle.path_meaning.specs.Path.{Stand, Leads, at_root}
-use Rattle.path_meaning.specs.Walks.{stand_of}
+use Rattle.switch_paths.specs.Path.{Stand, Leads, at_root}
+use Rattle.switch_paths.specs.Walks.{stand_of}
 use Rattle.why_path.specs.Lines.{AreTold, hops_text}
 use Rattle.why_path.proofs.line.append_hops.Given as goal
 

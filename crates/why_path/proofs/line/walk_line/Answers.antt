@@ -1,10 +1,10 @@
 -- The pieces of the line, in order.
 use Rattle.std.proofs.Common.{◌≡◌, ap, refl, List, ℕ, Option}
 use Rattle.std.specs.Prelude.{unwrap_or, []}
-use Rattle.path_meaning.specs.Graphs.{GraphData}
-use Rattle.path_meaning.specs.Walks.{stand_of}
-use Rattle.path_meaning.specs.Path.{LivePath, at_root}
-use Rattle.path_meaning.proofs.PathLemmas.{Leads-unique}
+use Rattle.switch_paths.specs.Graphs.{GraphData}
+use Rattle.switch_paths.specs.Walks.{stand_of}
+use Rattle.switch_paths.specs.Path.{LivePath, at_root}
+use Rattle.switch_paths.proofs.PathLemmas.{Leads-unique}
 use Rattle.netlist.specs.Circuits.{called}
 use Rattle.why_path.proofs.LineLemmas.{AreTold-leads}
 use Rattle.why_path.proofs.line.walk_line.Goals as goal

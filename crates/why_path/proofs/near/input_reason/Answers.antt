@@ -1,6 +1,6 @@
 -- The empty path, or none.
 use Rattle.std.proofs.Common.{◌∙◌, sym}
-use Rattle.path_meaning.specs.Spread.{rail_of}
+use Rattle.switch_paths.specs.Spread.{rail_of}
 use Rattle.why_path.proofs.NearLemmas.{input_best, input_none}
 use Rattle.why_path.proofs.near.input_reason.Goals as goal
 

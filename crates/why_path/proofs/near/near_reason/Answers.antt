@@ -2,11 +2,11 @@
 use Rattle.std.proofs.Common.{◌≡◌, ℕ, List, Option, ◌∙◌, refl, sym, ap, subst, arith, length, map}
 use Rattle.std.specs.Prelude.{option_map}
 use Rattle.std.proofs.lemmas.List.{length-map}
-use Rattle.path_meaning.specs.declared.walks.Walk.{Walk}
-use Rattle.path_meaning.specs.Switching.{state_at}
-use Rattle.path_meaning.specs.Graphs.{GraphData, IsStorage, nodes, place_at}
-use Rattle.path_meaning.specs.Path.{at_root}
-use Rattle.path_meaning.specs.Spread.{rail_of}
+use Rattle.switch_paths.specs.declared.walks.Walk.{Walk}
+use Rattle.switch_paths.specs.Switching.{state_at}
+use Rattle.switch_paths.specs.Graphs.{GraphData, IsStorage, nodes, place_at}
+use Rattle.switch_paths.specs.Path.{at_root}
+use Rattle.switch_paths.specs.Spread.{rail_of}
 use Rattle.group_meaning.specs.Groups.{Group, IsGroup}
 use Rattle.group_text.specs.Texts.{GroupTextData, local_nodes, local_graph, local_state, local_switch}
 use Rattle.group_text.proofs.LocalEdges.{nodes_local}

@@ -1,6 +1,6 @@
 -- The states so far.
 use Rattle.std.proofs.Common.{◌≡◌, map, take}
-use Rattle.path_meaning.specs.Switching.{state_at}
+use Rattle.switch_paths.specs.Switching.{state_at}
 use Rattle.why_path.proofs.near.states_at.Given as goal
 
 abbrev pub invariant-loop-node : goal.invariant-loop-node

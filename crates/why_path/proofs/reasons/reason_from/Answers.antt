@@ -1,6 +1,6 @@
 -- The trail to the node's entry, or that there is none.
 use Rattle.std.proofs.Common.{Some, None}
-use Rattle.path_meaning.specs.Spread.{rail_of}
+use Rattle.switch_paths.specs.Spread.{rail_of}
 use Rattle.why_path.specs.Search.{IsSearch, IsTrail, IsEntryOf}
 use Rattle.why_path.proofs.ReasonLemmas.{best_reason, no_reason}
 use Rattle.why_path.proofs.reasons.reason_from.Goals as goal

@@ -2,7 +2,7 @@
 use Rattle.std.proofs.Common.{◌≡◌, ◌∙◌, ap, refl, false, Some, None, length, arith}
 use Rattle.std.specs.Prelude.{slice_get}
 use Rattle.std.proofs.lemmas.Option.{slice_get_read}
-use Rattle.path_meaning.specs.Spread.{rail_of}
+use Rattle.switch_paths.specs.Spread.{rail_of}
 use Rattle.why_path.specs.declared.search.Found.{Found}
 use Rattle.why_path.specs.Search.{IsIn}
 use Rattle.why_path.proofs.SearchLemmas.{rooted, rooted_found, entered}

@@ -2,7 +2,7 @@
 use Rattle.std.proofs.Common.{◌∙◌, take, arith}
 use Rattle.std.proofs.lemmas.List.{take_more, take_all}
 use Rattle.std.proofs.lemmas.List.Elements.{All-push, All-weaker}
-use Rattle.path_meaning.specs.Spread.{rail_of}
+use Rattle.switch_paths.specs.Spread.{rail_of}
 use Rattle.why_path.specs.Search.{IsRootIn}
 use Rattle.why_path.proofs.SearchLemmas.{IsRootIn-kept}
 use Rattle.why_path.proofs.search.add_roots.Goals as goal

@@ -1,6 +1,6 @@
 -- The roots so far are in.
 use Rattle.std.proofs.Common.{◌≡◌, All, take}
-use Rattle.path_meaning.specs.Spread.{rail_of}
+use Rattle.switch_paths.specs.Spread.{rail_of}
 use Rattle.why_path.specs.Search.{IsSearch, IsRootIn}
 use Rattle.why_path.proofs.search.add_roots.Given as goal
 

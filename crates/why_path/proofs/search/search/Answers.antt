@@ -2,8 +2,8 @@
 use Rattle.std.proofs.Common.{◌≡◌, ℕ, ◌<◌, All, ◌∙◌, ap, refl, arith, replicate, false}
 use Rattle.std.specs.Prelude.{Contains}
 use Rattle.std.proofs.lemmas.List.Elements.{All-contains, All-contains_itself, All-weaker}
-use Rattle.path_meaning.specs.Graphs.{nodes}
-use Rattle.path_meaning.specs.Spread.{rail_of}
+use Rattle.switch_paths.specs.Graphs.{nodes}
+use Rattle.switch_paths.specs.Spread.{rail_of}
 use Rattle.why_path.specs.Search.{IsRootIn}
 use Rattle.why_path.proofs.SearchLemmas.{started, lowered, IsRootIn-kept}
 use Rattle.why_path.proofs.search.search.Goals as goal

@@ -1,6 +1,6 @@
 -- Of what is stronger than the strength of the moment nothing is missing.
 use Rattle.std.proofs.Common.{◌≡◌}
-use Rattle.path_meaning.specs.Spread.{rail_of}
+use Rattle.switch_paths.specs.Spread.{rail_of}
 use Rattle.why_path.specs.Search.{IsSearch}
 use Rattle.why_path.proofs.search.search.Given as goal
 

@@ -3,7 +3,7 @@ use Rattle.std.proofs.Common.{◌≡◌, ◌∙◌, ℕ, ◌+◌, ◌<◌, List,
 use Rattle.std.specs.Prelude.{slice_get, Contains}
 use Rattle.std.proofs.lemmas.List.{take_all}
 use Rattle.std.proofs.lemmas.Option.{slice_get_read}
-use Rattle.path_meaning.specs.Spread.{rail_of}
+use Rattle.switch_paths.specs.Spread.{rail_of}
 use Rattle.why_path.specs.declared.search.Found.{Found}
 use Rattle.why_path.specs.Search.{IsIn, IsPassed, IsSearch, Keeps}
 use Rattle.why_path.proofs.SearchLemmas.{passed_more, passed_nowhere, passed_found, landed, entered, read_at}

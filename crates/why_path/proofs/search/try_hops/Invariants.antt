@@ -1,7 +1,7 @@
 -- Of the entry whose hops are tried, the places so far are passed.
 use Rattle.std.proofs.Common.{◌≡◌, ℕ, Some, take}
 use Rattle.std.specs.Prelude.{slice_get, Contains}
-use Rattle.path_meaning.specs.Spread.{rail_of}
+use Rattle.switch_paths.specs.Spread.{rail_of}
 use Rattle.why_path.specs.declared.search.Found.{Found}
 use Rattle.why_path.specs.Search.{IsSearch, IsPassed, Keeps}
 use Rattle.why_path.proofs.search.try_hops.Given as goal

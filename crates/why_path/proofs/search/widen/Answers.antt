@@ -2,7 +2,7 @@
 use Rattle.std.proofs.Common.{◌≡◌, ◌<◌, ◌∙◌, sym, Some, refl, arith, length}
 use Rattle.std.specs.Prelude.{slice_get}
 use Rattle.std.proofs.lemmas.Option.{slice_get_read, slice_get_within}
-use Rattle.path_meaning.specs.Spread.{rail_of}
+use Rattle.switch_paths.specs.Spread.{rail_of}
 use Rattle.why_path.specs.Search.{list_at, IsSettled}
 use Rattle.why_path.proofs.SearchLemmas.{settled_by, settled_more, list_at-read}
 use Rattle.why_path.proofs.FoundLemmas.{Keeps-trans}

@@ -1,8 +1,8 @@
 -- The entries so far are settled.
 use Rattle.std.proofs.Common.{◌≡◌, ℕ, ◌<◌, ◌-◌, Some}
 use Rattle.std.specs.Prelude.{slice_get}
-use Rattle.path_meaning.specs.Graphs.{nodes}
-use Rattle.path_meaning.specs.Spread.{rail_of}
+use Rattle.switch_paths.specs.Graphs.{nodes}
+use Rattle.switch_paths.specs.Spread.{rail_of}
 use Rattle.why_path.specs.declared.search.Found.{Found}
 use Rattle.why_path.specs.Search.{IsSearch, IsSettled, Keeps}
 use Rattle.why_path.proofs.search.widen.Given as goal

@@ -1,7 +1,7 @@
 -- One node more.
 use Rattle.std.proofs.Common.{◌≡◌, inl, inr, refl, subst, sym, ap, ◌∙◌, arith}
 use Rattle.std.proofs.lemmas.Bool.{cases_lt}
-use Rattle.path_meaning.specs.Graphs.{level_of}
+use Rattle.switch_paths.specs.Graphs.{level_of}
 use Rattle.vicinity.specs.NodeSets.{IsIn}
 use Rattle.wide_groups.proofs.confined.confine_nodes.Goals as goal
 

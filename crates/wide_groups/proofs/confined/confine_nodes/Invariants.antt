@@ -1,7 +1,7 @@
 -- The nodes so far have their levels or are input nodes; the others have their levels.
 use Rattle.std.proofs.Common.{◌≡◌, ◌<◌, ℕ}
 use Rattle.strength_order.specs.declared.TheConstants.{INPUT_LEVEL}
-use Rattle.path_meaning.specs.Graphs.{nodes, level_of}
+use Rattle.switch_paths.specs.Graphs.{nodes, level_of}
 use Rattle.vicinity.specs.NodeSets.{IsIn}
 use Rattle.wide_groups.proofs.confined.confine_nodes.Given as goal
 

@@ -2,7 +2,7 @@
 use Rattle.std.proofs.Common.{◌≡◌, length, Some, None, inl, inr, refl, subst, sym, ap, ◌∙◌, arith}
 use Rattle.std.proofs.lemmas.Bool.{cases_lt, cases_eq}
 use Rattle.std.proofs.lemmas.List.{get_or_past}
-use Rattle.path_meaning.specs.Graphs.{place_at}
+use Rattle.switch_paths.specs.Graphs.{place_at}
 use Rattle.wide_groups.proofs.confined.confine_places.Goals as goal
 
 pub loop-place-init : goal.loop-place-init

@@ -1,7 +1,7 @@
 -- The places so far have a switch only with an end in the set; the others have what they had.
 use Rattle.std.proofs.Common.{◌≡◌, ◌<◌, ◌≤◌, ℕ, length, Some}
-use Rattle.path_meaning.specs.declared.switching.Switch.{Switch}
-use Rattle.path_meaning.specs.Graphs.{place_at}
+use Rattle.switch_paths.specs.declared.switching.Switch.{Switch}
+use Rattle.switch_paths.specs.Graphs.{place_at}
 use Rattle.wide_groups.specs.Confined.{HasEndIn}
 use Rattle.wide_groups.proofs.confined.confine_places.Given as goal
 

@@ -1,6 +1,6 @@
 -- The copy is confined.
 use Rattle.std.proofs.Common.{subst, sym, ap, ◌∙◌}
-use Rattle.path_meaning.specs.Graphs.{nodes}
+use Rattle.switch_paths.specs.Graphs.{nodes}
 use Rattle.wide_groups.specs.Confined.{IsConfined}
 use Rattle.wide_groups.proofs.ConfinedLemmas.{IsConfined-from}
 use Rattle.wide_groups.proofs.confined.confined.Goals as goal

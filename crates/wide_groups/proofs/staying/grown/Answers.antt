@@ -1,6 +1,6 @@
 -- The graph of the groups that are known has no more nodes.
 use Rattle.std.proofs.Common.{◌≤◌, subst}
-use Rattle.path_meaning.specs.Graphs.{nodes}
+use Rattle.switch_paths.specs.Graphs.{nodes}
 use Rattle.wide_groups.specs.Moving.{graph_in}
 use Rattle.wide_groups.proofs.staying.grown.Goals as goal
 

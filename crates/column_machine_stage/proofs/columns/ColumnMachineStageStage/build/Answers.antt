@@ -13,9 +13,9 @@ returns-clause-fits g c = fits_made c.args.large c.args.graph.now c.args.self.no
 pub returns-clause-serves : goal.returns-clause-serves
 returns-clause-serves g c = serves_alone c.make.new.self c.args.graph.now (texts_of c.make.new.kept) c.make.ensures.serves
 
-pub returns-clause-lanes : goal.returns-clause-lanes
-returns-clause-lanes g c =
-    (same_made c.args.large c.args.graph.now c.args.self.now c.make.new.self c.make.result c.make.ensures.made c.make.ensures.err).lanes
+pub returns-clause-columns : goal.returns-clause-columns
+returns-clause-columns g c =
+    (same_made c.args.large c.args.graph.now c.args.self.now c.make.new.self c.make.result c.make.ensures.made c.make.ensures.err).columns
 
 pub returns-clause-states : goal.returns-clause-states
 returns-clause-states g c =

@@ -2,7 +2,7 @@
 use Rattle.std.proofs.Common.{◌≡◌, ℕ, ◌<◌, subst, sym, ◌∙◌, true≢false, arith}
 use Rattle.column_stage.specs.Columns.{with_new_nodes}
 use Rattle.column_machine_stage.specs.Stages.{states_in}
-use Rattle.column_machine_stage.proofs.ColumnLemmas.{length-column-min}
+use Rattle.column_machine_stage.proofs.ColumnLemmas.{length-column_states-min}
 use Rattle.column_machine_stage.proofs.columns.ColumnMachineStageStage.edit.Goals as goal
 
 pub add_nodes-requires-clause-few : goal.add_nodes-requires-clause-few
@@ -18,12 +18,12 @@ add_nodes-requires-clause-room c =
       room,
       c.nodes.ensures,
       (sound 0 (omega (arith, c.count-some.ensures.some, c.count-some.ensures.value))).counted,
-      length-column-min 0 c.args.self.now.hi c.args.self.now.lo,
+      length-column_states-min 0 c.args.self.now.hi c.args.self.now.lo,
     )
 
 pub returns-clause-states : goal.returns-clause-states
 returns-clause-states c =
-    subst (λ (n : ℕ). (lane : ℕ) → lane < c.args.self.now.lanes → states_in c.add_nodes.new.self lane ≡ with_new_nodes (states_in c.args.self.now lane) n)
+    subst (λ (n : ℕ). (column : ℕ) → column < c.args.self.now.columns → states_in c.add_nodes.new.self column ≡ with_new_nodes (states_in c.args.self.now column) n)
     c.nodes.ensures c.add_nodes.ensures.states
 
 pub returns-clause-serves : goal.returns-clause-serves
@@ -31,8 +31,8 @@ returns-clause-serves c = λ fresh. absurd (true≢false (sym c.add_nodes.ensure
 
 pub returns-clause-did : goal.returns-clause-did
 returns-clause-did c = record {
-  lanes = c.add_nodes.ensures.lanes;
-  each = subst (λ (n : ℕ). (lane : ℕ) → lane < c.args.self.now.lanes → states_in c.add_nodes.new.self lane ≡ with_new_nodes (states_in c.args.self.now lane) n)
+  columns = c.add_nodes.ensures.columns;
+  each = subst (λ (n : ℕ). (column : ℕ) → column < c.args.self.now.columns → states_in c.add_nodes.new.self column ≡ with_new_nodes (states_in c.args.self.now column) n)
       c.nodes.ensures c.add_nodes.ensures.states;
   stale = c.add_nodes.ensures.stale;
 }

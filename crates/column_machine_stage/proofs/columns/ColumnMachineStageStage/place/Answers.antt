@@ -16,16 +16,16 @@ set_node-requires-clause-inside c =
     subst (λ (n : ℕ). c.args.node < n) (sym (c.requires.sound 0 (omega (arith, c.count.ensures.some, c.count.ensures.value))).counted) c.requires.inside
 
 -- in each column the words are the rails of its letter
-has_letters : (c : After-value_words-words) → (lane : ℕ) → lane < c.args.self.now.lanes → HasValue lane (letter_in lane c.args.letters.now) c.value_words-words.result
-has_letters c lane inside = c.value_words-words.ensures lane (subst (λ (n : ℕ). lane < n) (sym c.count.ensures.value) inside)
+has_letters : (c : After-value_words-words) → (column : ℕ) → column < c.args.self.now.columns → HasValue column (letter_in column c.args.letters.now) c.value_words-words.result
+has_letters c column inside = c.value_words-words.ensures column (subst (λ (n : ℕ). column < n) (sym c.count.ensures.value) inside)
 
 pub set_node-requires-clause-states : goal.set_node-requires-clause-states
 set_node-requires-clause-states c =
-    letters_rail c.args.self.now.lanes c.args.letters.now c.value_words-words.result (has_letters (goal.at.set_node-requires-clause-states c).After-value_words-words)
+    letters_rail c.args.self.now.columns c.args.letters.now c.value_words-words.result (has_letters (goal.at.set_node-requires-clause-states c).After-value_words-words)
 
 pub returns-clause-states : goal.returns-clause-states
 returns-clause-states c =
-    letters_placed c.args.self.now.lanes c.args.letters.now c.value_words-words.result (has_letters (goal.at.returns-clause-states c).After-value_words-words) c.args.node
+    letters_placed c.args.self.now.columns c.args.letters.now c.value_words-words.result (has_letters (goal.at.returns-clause-states c).After-value_words-words) c.args.node
     c.args.self.now.hi c.args.self.now.lo c.set_node.new.self.hi c.set_node.new.self.lo c.set_node.ensures.hi c.set_node.ensures.lo
 
 pub returns-clause-serves : goal.returns-clause-serves
@@ -38,8 +38,8 @@ returns-clause-fits c = λ fits.
 
 pub returns-clause-did : goal.returns-clause-did
 returns-clause-did c = record {
-  lanes = c.set_node.ensures.lanes;
-  each = letters_placed c.args.self.now.lanes c.args.letters.now c.value_words-words.result (has_letters (goal.at.returns-clause-did c).After-value_words-words) c.args.node
+  columns = c.set_node.ensures.columns;
+  each = letters_placed c.args.self.now.columns c.args.letters.now c.value_words-words.result (has_letters (goal.at.returns-clause-did c).After-value_words-words) c.args.node
       c.args.self.now.hi c.args.self.now.lo c.set_node.new.self.hi c.set_node.new.self.lo c.set_node.ensures.hi c.set_node.ensures.lo;
   machine = c.set_node.ensures.machine;
 }

@@ -2,8 +2,8 @@
 use Rattle.column_machine_stage.proofs.ServingLemmas.{serves_roomed}
 use Rattle.column_machine_stage.proofs.columns.ColumnMachineStageStage.reserve.Goals as goal
 
-pub returns-clause-lanes : goal.returns-clause-lanes
-returns-clause-lanes c = c.take_room.ensures.same.lanes
+pub returns-clause-columns : goal.returns-clause-columns
+returns-clause-columns c = c.take_room.ensures.same.columns
 
 pub returns-clause-states : goal.returns-clause-states
 returns-clause-states c = c.take_room.ensures.same.each

@@ -4,11 +4,11 @@ use Rattle.column_machine_stage.proofs.MovingLemmas.{settle_together}
 use Rattle.column_machine_stage.proofs.ServingLemmas.{serves_moved}
 use Rattle.column_machine_stage.proofs.columns.ColumnMachineStageStage.settle.Goals as goal
 
-pub returns-clause-lanes : goal.returns-clause-lanes
-returns-clause-lanes c = (c.settle_machine.ensures.moves (record { steps = 0; joined = false })).lanes
+pub returns-clause-columns : goal.returns-clause-columns
+returns-clause-columns c = (c.settle_machine.ensures.moves (record { steps = 0; joined = false })).columns
 
 pub returns-clause-settles : goal.returns-clause-settles
-returns-clause-settles c = λ lane past inside. (c.settle_machine.ensures.moves past).each lane inside
+returns-clause-settles c = λ column past inside. (c.settle_machine.ensures.moves past).each column inside
 
 pub returns-clause-serves : goal.returns-clause-serves
 returns-clause-serves c = λ kept serves.

@@ -2,8 +2,8 @@
 use Rattle.column_machine_stage.proofs.ServingLemmas.{serves_moved}
 use Rattle.column_machine_stage.proofs.columns.ColumnMachineStageStage.step.Goals as goal
 
-pub returns-clause-lanes : goal.returns-clause-lanes
-returns-clause-lanes c = c.step_machine.ensures.moves.lanes
+pub returns-clause-columns : goal.returns-clause-columns
+returns-clause-columns c = c.step_machine.ensures.moves.columns
 
 pub returns-clause-steps : goal.returns-clause-steps
 returns-clause-steps c = c.step_machine.ensures.moves.each

@@ -22,7 +22,7 @@ put-requires g c = c.in_ok-machine.ensures.same.0
 pub returns-clause-made : goal.returns-clause-made
 returns-clause-made g c =
     made_anew c.args.large c.args.graph.now c.args.self.now c.put.new.self c.in_ok-machine.machine c.put.ensures.machine c.put.ensures.large
-    c.in_ok-machine.ensures.fits c.in_ok-machine.ensures.same.1 c.in_ok-machine.ensures.same.2 c.put.ensures.lanes c.put.ensures.hi c.put.ensures.lo
+    c.in_ok-machine.ensures.fits c.in_ok-machine.ensures.same.1 c.in_ok-machine.ensures.same.2 c.put.ensures.columns c.put.ensures.hi c.put.ensures.lo
     c.put.ensures.fresh
 
 pub returns-clause-serves : goal.returns-clause-serves

@@ -1,6 +1,6 @@
 use Rattle.std.proofs.Common.{◌≡◌, ◌-◌, ◌∷◌, replicate, set, rules, arith}
 use Rattle.ternary.specs.declared.tern.Tern.TheVariants.{Zero, One, Unk}
-use Rattle.column_machine_stage.proofs.ColumnLemmas.{AreColumns-states, HasLane-start, column_is}
+use Rattle.column_machine_stage.proofs.ColumnLemmas.{AreColumns-states, AreRailsIn-start, column_is}
 use Rattle.column_machine_stage.proofs.stage.ColumnMachineStage.start.Goals as goal
 
 pub invariant_of-result : goal.invariant_of-result
@@ -10,17 +10,17 @@ invariant_of-result c =
     rw (hi, lo) (record {
       some = c.requires.some;
       few = c.requires.few;
-      columns = AreColumns-states c.args.lanes (set (replicate c.args.nodes 18446744073709551615) 0 0) (set (replicate c.args.nodes 18446744073709551615) 1 0)
-          (λ lane. Zero ∷ One ∷ replicate (c.args.nodes - 2) Unk) c.requires.some
-          (λ lane inside. HasLane-start lane c.args.nodes (omega (arith, inside)) c.requires.railed);
+      columns_are = AreColumns-states c.args.columns (set (replicate c.args.nodes 18446744073709551615) 0 0) (set (replicate c.args.nodes 18446744073709551615) 1 0)
+          (λ column. Zero ∷ One ∷ replicate (c.args.nodes - 2) Unk) c.requires.some
+          (λ column inside. AreRailsIn-start column c.args.nodes (omega (arith, inside)) c.requires.railed);
       same = tt;
     })
 
 pub returns-clause-states : goal.returns-clause-states
-returns-clause-states c = λ lane inside.
+returns-clause-states c = λ column inside.
     let hi : c.in_ok-hi.hi.items ≡ replicate c.args.nodes 18446744073709551615 = search rules in
     let lo : c.in_ok-lo.lo.items ≡ replicate c.args.nodes 18446744073709551615 = search rules in
-    rw (hi, lo) (column_is lane _ _ (Zero ∷ One ∷ replicate (c.args.nodes - 2) Unk) (HasLane-start lane c.args.nodes (omega (arith, inside)) c.requires.railed))
+    rw (hi, lo) (column_is column _ _ (Zero ∷ One ∷ replicate (c.args.nodes - 2) Unk) (AreRailsIn-start column c.args.nodes (omega (arith, inside)) c.requires.railed))
 
 -- without a machine it serves any graph
 pub returns-clause-serves : goal.returns-clause-serves

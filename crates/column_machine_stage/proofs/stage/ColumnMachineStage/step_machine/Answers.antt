@@ -1,6 +1,6 @@
 use Rattle.std.proofs.Common.{◌≡◌, ℕ, ◌<◌, None, Some, refl, sym, ap, subst, ◌∙◌}
-use Rattle.lane_machine.specs.declared.column_machine.ColumnMachine.{ColumnMachine}
-use Rattle.lane_machine.specs.Moving.{lanes_of, FitsInColumns}
+use Rattle.column_machines.specs.declared.column_machine.ColumnMachine.{ColumnMachine}
+use Rattle.column_machines.specs.Moving.{columns_of, FitsInColumns}
 use Rattle.column_machine_stage.specs.Stages.{StageData, machine_held}
 use Rattle.column_machine_stage.proofs.stage.ColumnMachineStage.step_machine.Goals as goal
 use Rattle.column_machine_stage.proofs.stage.ColumnMachineStage.step_machine.Goals.{in-Built, in_default}
@@ -14,10 +14,10 @@ returns-clause-moves c =
           sym (ap machine_held w.in-Built.is) ∙ ap (λ (stage : StageData). stage.machine) c.self.view_is ∙ c.requires.there in
           let same : c.requires.machine ≡ w.in-Built.machine = cc in
           let fits : FitsInColumns graph w.in-Built.machine = subst (λ (machine : ColumnMachine). FitsInColumns graph machine) same c.requires.fits in
-          let lanes : lanes_of w.in-Built.machine ≡ c.self.inside.lanes = rw w.in-Built.is at c.self.invariant.same in
+          let columns : columns_of w.in-Built.machine ≡ c.self.inside.columns = rw w.in-Built.is at c.self.invariant.same in
           rw (w.self-inside-is, ← c.self.view_is) (record {
-            lanes = refl;
-            each = λ lane inside. rw w.in-Built.is (w.step.ensures.step fits lane (subst (λ (n : ℕ). lane < n) (sym lanes) inside));
+            columns = refl;
+            each = λ column inside. rw w.in-Built.is (w.step.ensures.step fits column (subst (λ (n : ℕ). column < n) (sym columns) inside));
             fits = record { machine = w.step.new.self; there = refl; fits = w.step.ensures.fits fits };
           })
       | in_default w ↦

@@ -1,5 +1,5 @@
 use Rattle.std.proofs.Common.{None, refl, ap₂, ◌∙◌, arith}
-use Rattle.lane_machine.specs.Columns.{column}
+use Rattle.column_machines.specs.Columns.{column_states}
 use Rattle.column_machine_stage.specs.declared.stage.Held.TheVariants.{Still}
 use Rattle.column_machine_stage.specs.Stages.{StageData, SameStates, spare_held}
 use Rattle.column_machine_stage.proofs.ColumnLemmas.{AreColumns-states, column_is}
@@ -12,8 +12,8 @@ invariant_of-self-in_ok-rails-in-Built-2 c =
     record {
       some = c.self.invariant.some;
       few = c.self.invariant.few;
-      columns = AreColumns-states c.self.inside.lanes rails.hi.items rails.lo.items (λ lane. column lane c.hi.result.now c.lo.result.now) c.self.invariant.some
-          (λ lane inside. c.in_ok-rails-in-Built.ensures.states lane (omega (arith, inside, c.self.invariant.few)));
+      columns_are = AreColumns-states c.self.inside.columns rails.hi.items rails.lo.items (λ column. column_states column c.hi.result.now c.lo.result.now) c.self.invariant.some
+          (λ column inside. c.in_ok-rails-in-Built.ensures.states column (omega (arith, inside, c.self.invariant.few)));
       same = tt;
     }
 
@@ -23,8 +23,8 @@ invariant_of-self-in_ok-rails-in-Built-3 c =
     record {
       some = c.self.invariant.some;
       few = c.self.invariant.few;
-      columns = AreColumns-states c.self.inside.lanes rails.hi.items rails.lo.items (λ lane. column lane c.hi.result.now c.lo.result.now) c.self.invariant.some
-          (λ lane inside. c.in_ok-rails-in-Built.ensures.states lane (omega (arith, inside, c.self.invariant.few)));
+      columns_are = AreColumns-states c.self.inside.columns rails.hi.items rails.lo.items (λ column. column_states column c.hi.result.now c.lo.result.now) c.self.invariant.some
+          (λ column inside. c.in_ok-rails-in-Built.ensures.states column (omega (arith, inside, c.self.invariant.few)));
       same = tt;
     }
 
@@ -32,7 +32,7 @@ pub returns-in_ok-rails-in-Built-clause-same : goal.returns-in_ok-rails-in-Built
 returns-in_ok-rails-in-Built-clause-same c =
     let rails = c.in_ok-rails-in-Built.rails in
     let stage : StageData = record {
-      lanes = c.self.inside.lanes;
+      columns = c.self.inside.columns;
       hi = rails.hi.items;
       lo = rails.lo.items;
       machine = None;
@@ -42,12 +42,12 @@ returns-in_ok-rails-in-Built-clause-same c =
     } in
     let same : SameStates c.args.self.now stage =
     rw (← c.self.view_is) (record {
-      lanes = refl;
-      each = λ lane inside.
+      columns = refl;
+      each = λ column inside.
           rw c.in-Built.is
-          (column_is lane rails.hi.items rails.lo.items (column lane c.hi.result.now c.lo.result.now)
-          (c.in_ok-rails-in-Built.ensures.states lane (omega (arith, inside, c.self.invariant.few)))
-          ∙ ap₂ (column lane) c.hi.ensures c.lo.ensures);
+          (column_is column rails.hi.items rails.lo.items (column_states column c.hi.result.now c.lo.result.now)
+          (c.in_ok-rails-in-Built.ensures.states column (omega (arith, inside, c.self.invariant.few)))
+          ∙ ap₂ (column_states column) c.hi.ensures c.lo.ensures);
     }) in
     elim c.match-self-2.branch [
       | in-Still-1 w ↦ rw w.self-is same

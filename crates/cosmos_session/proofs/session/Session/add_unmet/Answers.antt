@@ -2,7 +2,7 @@ use Rattle.std.proofs.Common.{◌≡◌, ◌<◌, ℕ, List, All, None, Ok, subs
 use Rattle.std.proofs.lemmas.Result.{err_from_is_err_and}
 use Rattle.vector_values.specs.Values.{Letter}
 use Rattle.script_lang.specs.declared.value.Value.{Value}
-use Rattle.path_meaning.specs.Graphs.{nodes}
+use Rattle.switch_paths.specs.Graphs.{nodes}
 use Rattle.node_values.specs.Givings.{letters_given}
 use Rattle.session_meaning.specs.Sessions.{HeldSession}
 use Rattle.session_meaning.specs.Refusals.{given_refusal, none_at}

@@ -11,6 +11,6 @@ pub returns-clause-named : goal.returns-clause-named
 returns-clause-named g c =
     let old = c.args.self.now in
     let new = c.obey_columns-outcome.new.self in
-    names_node_in_all g.M.Stage.cuts g.L.Lines.hear g.L.Lines.part (g.M.Stage.lanes old.stage) (column_of g.M.Stage.states old) (column_of g.M.Stage.states new)
-    c.args.command.now _ _ _ _ _ _ (first_of_some (g.M.Stage.lanes old.stage) c.is_well_formed.ensures.some) c.obey_columns-outcome.result
+    names_node_in_all g.M.Stage.cuts g.L.Lines.hear g.L.Lines.part (g.M.Stage.columns old.stage) (column_of g.M.Stage.states old) (column_of g.M.Stage.states new)
+    c.args.command.now _ _ _ _ _ _ (first_of_some (g.M.Stage.columns old.stage) c.is_well_formed.ensures.some) c.obey_columns-outcome.result
     c.obey_columns-outcome.ensures.obeys

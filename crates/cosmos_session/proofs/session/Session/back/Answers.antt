@@ -1,8 +1,8 @@
 use Rattle.std.proofs.Common.{◌≡◌, List, [], Option, Some, length, refl, sym, ap, subst, ◌∙◌}
 use Rattle.std.specs.Prelude.{unwrap_or}
 use Rattle.ternary.specs.declared.tern.Tern.{Tern}
-use Rattle.path_meaning.specs.Graphs.{nodes}
-use Rattle.path_meaning.specs.Rails.{IsSound}
+use Rattle.switch_paths.specs.Graphs.{nodes}
+use Rattle.switch_paths.specs.Rails.{IsSound}
 use Rattle.group_text.specs.Texts.{GroupTextData}
 use Rattle.group_analysis.specs.Using.{used_texts}
 use Rattle.analysis_cache.specs.Keeping.{texts_of}
@@ -29,7 +29,7 @@ give_back-requires-clause-one g c = g.met.M.PlainStage.one c.self.inside.stage
 
 pub give_back-requires-clause-sound : goal.give_back-requires-clause-sound
 give_back-requires-clause-sound g c =
-    rw c.graph.ensures.value (sound_held g.M.Stage.lanes g.M.Stage.states g.M.Stage.serves _ c.self.invariant.0)
+    rw c.graph.ensures.value (sound_held g.M.Stage.columns g.M.Stage.states g.M.Stage.serves _ c.self.invariant.0)
 
 pub give_back-requires-clause-few : goal.give_back-requires-clause-few
 give_back-requires-clause-few g c =
@@ -58,7 +58,7 @@ invariant_of-self g c =
     let table = texts_of c.self.inside.kept in
     let is = moved g (goal.at.invariant_of-self g c).After-give_back in
     let saves = kept-fits (nodes core.circuit.graph) core.saves c.args.name.now held.core.ready.saved in (
-      held_moved g.M.Stage.lanes g.M.Stage.states g.M.Stage.serves session stage core.count (used_texts (g.M.Stage.last stage) table)
+      held_moved g.M.Stage.columns g.M.Stage.states g.M.Stage.serves session stage core.count (used_texts (g.M.Stage.last stage) table)
           (ap (λ (last : List GroupTextData). used_texts last table) c.give_back.ensures.last) c.give_back.ensures.one
           (ap length is ∙ length-back (nodes core.circuit.graph) (kept_under core.saves c.args.name.now) core.state held.core.ready.states saves
           ∙ held.core.ready.states)

@@ -13,10 +13,10 @@ pub loop-cycle-init : goal.loop-cycle-init
 loop-cycle-init g c =
     let start = c.args.self.now in
     record {
-      done = in_all-no_cycle g.L.Lines.hear g.L.Lines.part (g.M.Stage.lanes start.stage) (column_of g.M.Stage.states start) (places_of start.core.clocks)
+      done = in_all-no_cycle g.L.Lines.hear g.L.Lines.part (g.M.Stage.columns start.stage) (column_of g.M.Stage.states start) (places_of start.core.clocks)
           (g.L.Lines.heard c.args.out.now);
       fits = c.requires.fits;
-      lanes = refl;
+      columns = refl;
       setup = setup-same start.core;
       room = refl;
       line = refl;
@@ -28,57 +28,58 @@ pub cycle_once-requires-clause-session : goal.cycle_once-requires-clause-session
 cycle_once-requires-clause-session g c = c.is_well_formed.ensures
 
 pub cycle_once-requires-clause-counts : goal.cycle_once-requires-clause-counts
-cycle_once-requires-clause-counts g c = c.loop-cycle.auto.counts ∙ c.requires.counts ∙ sym c.loop-cycle.invariant.lanes
+cycle_once-requires-clause-counts g c = c.loop-cycle.auto.counts ∙ c.requires.counts ∙ sym c.loop-cycle.invariant.columns
 
 pub cycle_once-requires-clause-room : goal.cycle_once-requires-clause-room
 cycle_once-requires-clause-room g c =
     omega (
       arith,
-      ap₂ (λ (lanes width : ℕ). lanes * width) c.loop-cycle.invariant.lanes (ap length c.loop-cycle.invariant.setup.watched),
+      ap₂ (λ (columns width : ℕ). columns * width) c.loop-cycle.invariant.columns (ap length c.loop-cycle.invariant.setup.watched),
       c.loop-cycle.invariant.room,
       c.requires.room,
     )
 
 pub cycle_once-requires-clause-line : goal.cycle_once-requires-clause-line
-cycle_once-requires-clause-line g c = omega (arith, c.loop-cycle.invariant.lanes, c.loop-cycle.invariant.line, c.requires.line)
+cycle_once-requires-clause-line g c = omega (arith, c.loop-cycle.invariant.columns, c.loop-cycle.invariant.line, c.requires.line)
 
 pub returns-in_err-cycle_once-clause-beats : goal.returns-in_err-cycle_once-clause-beats
 returns-in_err-cycle_once-clause-beats g c =
     let stopped = err_from_is_err_and c.from_residual.result c.from_residual.ensures.1 in
     let start = c.args.self.now in
     let now = c.loop-cycle.self in
-    let lanes = g.M.Stage.lanes start.stage in
-    let columns = column_of g.M.Stage.states start in
+    let columns = g.M.Stage.columns start.stage in
+    let sessions = column_of g.M.Stage.states start in
     let before = column_of g.M.Stage.states now in
     let after = column_of g.M.Stage.states c.cycle_once.new.self in
     let count = places_of start.core.clocks in
-    rw stopped.1 (in_all-stopped_cycle g.L.Lines.hear g.L.Lines.part lanes columns before after count c.loop-cycle._cycle (g.L.Lines.heard c.args.out.now)
+    rw stopped.1 (in_all-stopped_cycle g.L.Lines.hear g.L.Lines.part columns sessions before after count c.loop-cycle._cycle (g.L.Lines.heard c.args.out.now)
     (g.L.Lines.heard c.loop-cycle.out) (g.L.Lines.heard c.cycle_once.new.out) c.loop-cycle.invariant.done c.args.times
-    (column_ready g.M.Stage.lanes g.M.Stage.states g.M.Stage.serves start c.requires.session) c.loop-cycle-test.true
-    (in_all-as g.L.Lines.hear g.L.Lines.part lanes (g.M.Stage.lanes now.stage) count (places_of now.core.clocks) c.loop-cycle.invariant.lanes
+    (column_ready g.M.Stage.columns g.M.Stage.states g.M.Stage.serves start c.requires.session) c.loop-cycle-test.true
+    (in_all-as g.L.Lines.hear g.L.Lines.part columns (g.M.Stage.columns now.stage) count (places_of now.core.clocks) c.loop-cycle.invariant.columns
     (ap places_of c.loop-cycle.invariant.setup.clocks) before after (g.L.Lines.heard c.loop-cycle.out) (g.L.Lines.heard c.cycle_once.new.out)
     (Err c.in_err-cycle_once.field-0.0) c.in_err-cycle_once.ensures.beats))
 
-pub returns-in_err-cycle_once-clause-lanes : goal.returns-in_err-cycle_once-clause-lanes
-returns-in_err-cycle_once-clause-lanes g c = c.cycle_once.ensures.lanes ∙ c.loop-cycle.invariant.lanes
+pub returns-in_err-cycle_once-clause-columns : goal.returns-in_err-cycle_once-clause-columns
+returns-in_err-cycle_once-clause-columns g c = c.cycle_once.ensures.columns ∙ c.loop-cycle.invariant.columns
 
 pub loop-cycle-preserved : goal.loop-cycle-preserved
 loop-cycle-preserved g c =
     let start = c.args.self.now in
     let now = c.loop-cycle.self in
-    let lanes = g.M.Stage.lanes start.stage in
-    let columns = column_of g.M.Stage.states start in
+    let columns = g.M.Stage.columns start.stage in
+    let sessions = column_of g.M.Stage.states start in
     let before = column_of g.M.Stage.states now in
     let after = column_of g.M.Stage.states c.cycle_once.new.self in
     let count = places_of start.core.clocks in
     record {
-      done = in_all-next_cycle g.L.Lines.hear g.L.Lines.part lanes columns before after count c.loop-cycle._cycle (g.L.Lines.heard c.args.out.now)
+      done = in_all-next_cycle g.L.Lines.hear g.L.Lines.part columns sessions before after count c.loop-cycle._cycle (g.L.Lines.heard c.args.out.now)
           (g.L.Lines.heard c.loop-cycle.out) (g.L.Lines.heard c.cycle_once.new.out) c.loop-cycle.invariant.done
-          (in_all-as g.L.Lines.hear g.L.Lines.part lanes (g.M.Stage.lanes now.stage) count (places_of now.core.clocks) c.loop-cycle.invariant.lanes
+          (in_all-as g.L.Lines.hear g.L.Lines.part columns (g.M.Stage.columns now.stage) count (places_of now.core.clocks)
+          c.loop-cycle.invariant.columns
           (ap places_of c.loop-cycle.invariant.setup.clocks) before after (g.L.Lines.heard c.loop-cycle.out) (g.L.Lines.heard c.cycle_once.new.out)
           (Ok tt) c.in_ok-cycle_once.ensures.beats);
       fits = c.cycle_once.ensures.fits;
-      lanes = c.cycle_once.ensures.lanes ∙ c.loop-cycle.invariant.lanes;
+      columns = c.cycle_once.ensures.columns ∙ c.loop-cycle.invariant.columns;
       setup = setup-more start.core now.core c.cycle_once.new.self.core c.loop-cycle.invariant.setup c.cycle_once.ensures.setup;
       room = c.cycle_once.ensures.room ∙ c.loop-cycle.invariant.room;
       line = c.cycle_once.ensures.line ∙ c.loop-cycle.invariant.line;
@@ -91,7 +92,7 @@ returns-clause-beats g c =
     let start = c.args.self.now in
     let all : c.loop-cycle._cycle ≡ c.args.times = omega arith in
     subst
-    (λ (cycle : ℕ). BeatsInAll g.L.Lines.hear (g.M.Stage.lanes start.stage) (column_of g.M.Stage.states start)
+    (λ (cycle : ℕ). BeatsInAll g.L.Lines.hear (g.M.Stage.columns start.stage) (column_of g.M.Stage.states start)
     (column_of g.M.Stage.states c.loop-cycle.self) (places_in (places_of start.core.clocks) cycle) (g.L.Lines.heard c.args.out.now)
     (g.L.Lines.heard c.loop-cycle.out))
     all c.loop-cycle.invariant.done

@@ -8,10 +8,10 @@ use Rattle.cosmos_session.proofs.session.Session.cycle_all.Given as goal
 
 abbrev pub invariant-loop-cycle : goal.invariant-loop-cycle
 invariant-loop-cycle g l = record {
-  done : BeatsInAll g.L.Lines.hear (g.M.Stage.lanes l.fn.self.stage) (column_of g.M.Stage.states l.fn.self) (column_of g.M.Stage.states l.self)
+  done : BeatsInAll g.L.Lines.hear (g.M.Stage.columns l.fn.self.stage) (column_of g.M.Stage.states l.fn.self) (column_of g.M.Stage.states l.self)
       (places_in (places_of l.fn.self.core.clocks) l._cycle) (g.L.Lines.heard l.fn.out) (g.L.Lines.heard l.out);
   fits : g.M.Stage.fits l.self.stage l.self.core.circuit.graph;
-  lanes : g.M.Stage.lanes l.self.stage ≡ g.M.Stage.lanes l.fn.self.stage;
+  columns : g.M.Stage.columns l.self.stage ≡ g.M.Stage.columns l.fn.self.stage;
   setup : SameSetup l.fn.self.core l.self.core;
   room : l.room ≡ l.fn.room;
   line : g.L.Lines.room l.out ≡ g.L.Lines.room l.fn.out;

@@ -14,9 +14,9 @@ loop-place-init g c =
     let start = c.args.self.now in
     record {
       end = search rules;
-      done = in_all-none g.L.Lines.hear g.L.Lines.part (g.M.Stage.lanes start.stage) (column_of g.M.Stage.states start) (g.L.Lines.heard c.args.out.now);
+      done = in_all-none g.L.Lines.hear g.L.Lines.part (g.M.Stage.columns start.stage) (column_of g.M.Stage.states start) (g.L.Lines.heard c.args.out.now);
       fits = c.requires.fits;
-      lanes = refl;
+      columns = refl;
       setup = setup-same start.core;
       room = refl;
       line = refl;
@@ -29,7 +29,7 @@ put_clocks_in_all-requires-clause-place g c = omega (arith, ap places_of c.loop-
 
 pub settle_and_tell_row-requires-clause-counts : goal.settle_and_tell_row-requires-clause-counts
 settle_and_tell_row-requires-clause-counts g c =
-    c.loop-place.auto.counts ∙ c.requires.counts ∙ sym (c.put_clocks_in_all.ensures.lanes ∙ c.loop-place.invariant.lanes)
+    c.loop-place.auto.counts ∙ c.requires.counts ∙ sym (c.put_clocks_in_all.ensures.columns ∙ c.loop-place.invariant.columns)
 
 pub settle_and_tell_row-requires-clause-room : goal.settle_and_tell_row-requires-clause-room
 settle_and_tell_row-requires-clause-room g c =
@@ -37,14 +37,14 @@ settle_and_tell_row-requires-clause-room g c =
     c.put_clocks_in_all.ensures.setup in
     omega (
       arith,
-      ap₂ (λ (lanes width : ℕ). lanes * width) (c.put_clocks_in_all.ensures.lanes ∙ c.loop-place.invariant.lanes) (ap length setup.watched),
+      ap₂ (λ (columns width : ℕ). columns * width) (c.put_clocks_in_all.ensures.columns ∙ c.loop-place.invariant.columns) (ap length setup.watched),
       c.loop-place.invariant.room,
       c.requires.room,
     )
 
 pub settle_and_tell_row-requires-clause-line : goal.settle_and_tell_row-requires-clause-line
 settle_and_tell_row-requires-clause-line g c =
-    omega (arith, c.put_clocks_in_all.ensures.lanes ∙ c.loop-place.invariant.lanes, c.loop-place.invariant.line, c.requires.line)
+    omega (arith, c.put_clocks_in_all.ensures.columns ∙ c.loop-place.invariant.columns, c.loop-place.invariant.line, c.requires.line)
 
 pub returns-in_err-settle_and_tell_row-clause-beats : goal.returns-in_err-settle_and_tell_row-clause-beats
 returns-in_err-settle_and_tell_row-clause-beats g c =
@@ -57,20 +57,20 @@ returns-in_err-settle_and_tell_row-clause-beats g c =
     let mid = g.L.Lines.heard c.loop-place.out in
     let after = g.L.Lines.heard c.settle_and_tell_row.new.out in
     let fault = c.in_err-settle_and_tell_row.field-0.0 in
-    rw stopped.1 (in_all-beat_stopped g.L.Lines.hear g.L.Lines.part (g.M.Stage.lanes start.stage) (column_of g.M.Stage.states start)
+    rw stopped.1 (in_all-beat_stopped g.L.Lines.hear g.L.Lines.part (g.M.Stage.columns start.stage) (column_of g.M.Stage.states start)
     (column_of g.M.Stage.states now) (column_of g.M.Stage.states put) (column_of g.M.Stage.states next) place (g.L.Lines.heard c.args.out.now) mid after
     c.loop-place.invariant.done
-    (subst (λ (n : ℕ). BeatInAll n (column_of g.M.Stage.states now) (column_of g.M.Stage.states put) place) c.loop-place.invariant.lanes
+    (subst (λ (n : ℕ). BeatInAll n (column_of g.M.Stage.states now) (column_of g.M.Stage.states put) place) c.loop-place.invariant.columns
     c.put_clocks_in_all.ensures.put)
     (places_of start.core.clocks) fault
-    (column_ready g.M.Stage.lanes g.M.Stage.states g.M.Stage.serves start c.requires.session) (omega (arith, c.loop-place.invariant.end))
+    (column_ready g.M.Stage.columns g.M.Stage.states g.M.Stage.serves start c.requires.session) (omega (arith, c.loop-place.invariant.end))
     (subst
     (λ (n : ℕ). PhasesTold g.L.Lines.hear g.L.Lines.part n (column_of g.M.Stage.states put) (column_of g.M.Stage.states next) mid after (Err fault))
-    (c.put_clocks_in_all.ensures.lanes ∙ c.loop-place.invariant.lanes) c.in_err-settle_and_tell_row.ensures.phases))
+    (c.put_clocks_in_all.ensures.columns ∙ c.loop-place.invariant.columns) c.in_err-settle_and_tell_row.ensures.phases))
 
-pub returns-in_err-settle_and_tell_row-clause-lanes : goal.returns-in_err-settle_and_tell_row-clause-lanes
-returns-in_err-settle_and_tell_row-clause-lanes g c =
-    c.settle_and_tell_row.ensures.lanes ∙ c.put_clocks_in_all.ensures.lanes ∙ c.loop-place.invariant.lanes
+pub returns-in_err-settle_and_tell_row-clause-columns : goal.returns-in_err-settle_and_tell_row-clause-columns
+returns-in_err-settle_and_tell_row-clause-columns g c =
+    c.settle_and_tell_row.ensures.columns ∙ c.put_clocks_in_all.ensures.columns ∙ c.loop-place.invariant.columns
 
 pub returns-in_err-settle_and_tell_row-clause-setup : goal.returns-in_err-settle_and_tell_row-clause-setup
 returns-in_err-settle_and_tell_row-clause-setup g c =
@@ -90,15 +90,15 @@ loop-place-preserved g c =
     let after = g.L.Lines.heard c.settle_and_tell_row.new.out in
     record {
       end = c.loop-place.invariant.end;
-      done = in_all-beat g.L.Lines.hear g.L.Lines.part (g.M.Stage.lanes start.stage) (column_of g.M.Stage.states start) (column_of g.M.Stage.states now)
+      done = in_all-beat g.L.Lines.hear g.L.Lines.part (g.M.Stage.columns start.stage) (column_of g.M.Stage.states start) (column_of g.M.Stage.states now)
           (column_of g.M.Stage.states put) (column_of g.M.Stage.states next) place (g.L.Lines.heard c.args.out.now) mid after c.loop-place.invariant.done
-          (subst (λ (n : ℕ). BeatInAll n (column_of g.M.Stage.states now) (column_of g.M.Stage.states put) place) c.loop-place.invariant.lanes
+          (subst (λ (n : ℕ). BeatInAll n (column_of g.M.Stage.states now) (column_of g.M.Stage.states put) place) c.loop-place.invariant.columns
           c.put_clocks_in_all.ensures.put)
           (subst
           (λ (n : ℕ). PhasesTold g.L.Lines.hear g.L.Lines.part n (column_of g.M.Stage.states put) (column_of g.M.Stage.states next) mid after (Ok tt))
-          (c.put_clocks_in_all.ensures.lanes ∙ c.loop-place.invariant.lanes) c.in_ok-settle_and_tell_row.ensures.phases);
+          (c.put_clocks_in_all.ensures.columns ∙ c.loop-place.invariant.columns) c.in_ok-settle_and_tell_row.ensures.phases);
       fits = c.settle_and_tell_row.ensures.fits;
-      lanes = c.settle_and_tell_row.ensures.lanes ∙ c.put_clocks_in_all.ensures.lanes ∙ c.loop-place.invariant.lanes;
+      columns = c.settle_and_tell_row.ensures.columns ∙ c.put_clocks_in_all.ensures.columns ∙ c.loop-place.invariant.columns;
       setup = setup-more start.core put.core next.core
           (setup-more start.core now.core put.core c.loop-place.invariant.setup c.put_clocks_in_all.ensures.setup) c.settle_and_tell_row.ensures.setup;
       room = c.settle_and_tell_row.ensures.room ∙ c.loop-place.invariant.room;
@@ -112,6 +112,6 @@ returns-clause-beats g c =
     let start = c.args.self.now in
     let all : c.loop-place.place ≡ places_of start.core.clocks = omega (arith, c.loop-place.invariant.end) in
     subst
-    (λ (count : ℕ). BeatsInAll g.L.Lines.hear (g.M.Stage.lanes start.stage) (column_of g.M.Stage.states start)
+    (λ (count : ℕ). BeatsInAll g.L.Lines.hear (g.M.Stage.columns start.stage) (column_of g.M.Stage.states start)
     (column_of g.M.Stage.states c.loop-place.self) (range_with_len 0 count) (g.L.Lines.heard c.args.out.now) (g.L.Lines.heard c.loop-place.out))
     all c.loop-place.invariant.done

@@ -9,10 +9,10 @@ use Rattle.cosmos_session.proofs.session.Session.cycle_once.Given as goal
 abbrev pub invariant-loop-place : goal.invariant-loop-place
 invariant-loop-place g l = record {
   end : l.place-end ≡ places_of l.fn.self.core.clocks;
-  done : BeatsInAll g.L.Lines.hear (g.M.Stage.lanes l.fn.self.stage) (column_of g.M.Stage.states l.fn.self) (column_of g.M.Stage.states l.self)
+  done : BeatsInAll g.L.Lines.hear (g.M.Stage.columns l.fn.self.stage) (column_of g.M.Stage.states l.fn.self) (column_of g.M.Stage.states l.self)
       (range_with_len 0 l.place) (g.L.Lines.heard l.fn.out) (g.L.Lines.heard l.out);
   fits : g.M.Stage.fits l.self.stage l.self.core.circuit.graph;
-  lanes : g.M.Stage.lanes l.self.stage ≡ g.M.Stage.lanes l.fn.self.stage;
+  columns : g.M.Stage.columns l.self.stage ≡ g.M.Stage.columns l.fn.self.stage;
   setup : SameSetup l.fn.self.core l.self.core;
   room : l.room ≡ l.fn.room;
   line : g.L.Lines.room l.out ≡ g.L.Lines.room l.fn.out;

@@ -4,10 +4,11 @@ use Rattle.cosmos_session.proofs.session.Session.edit_columns.Goals as goal
 
 pub returns-clause-quiet : goal.returns-clause-quiet
 returns-clause-quiet g c =
-    edit_in_all g.M.Stage.lanes g.M.Stage.states g.M.Stage.did g.met.M.ColumnStage.moves g.M.Stage.serves c.args.self.now c.edit-done.new.self c.args.edit.now
+    edit_in_all g.M.Stage.columns g.M.Stage.states g.M.Stage.did g.met.M.ColumnStage.moves g.M.Stage.serves c.args.self.now c.edit-done.new.self c.args.edit.now
     c.is_well_formed.ensures c.edit-done.result c.edit-done.ensures.quiet c.edit-done.ensures.stage c.edit-done.ensures.still
 
-pub returns-clause-lanes : goal.returns-clause-lanes
-returns-clause-lanes g c =
-    edit_keeps_columns g.M.Stage.lanes g.M.Stage.states g.M.Stage.did g.met.M.ColumnStage.moves g.M.Stage.serves c.args.self.now c.edit-done.new.self
+pub returns-clause-columns : goal.returns-clause-columns
+returns-clause-columns g c =
+    edit_keeps_columns g.M.Stage.columns g.M.Stage.states g.M.Stage.did g.met.M.ColumnStage.moves g.M.Stage.serves c.args.self.now
+    c.edit-done.new.self
     c.args.edit.now c.is_well_formed.ensures c.edit-done.result c.edit-done.ensures.stage c.edit-done.ensures.still

@@ -1,7 +1,7 @@
 use Rattle.std.proofs.Common.{◌≡◌, ◌≤◌, ◌<◌, ℕ, None, refl, sym, arith}
 use Rattle.std.specs.Prelude.{flat_map}
 use Rattle.std.proofs.lemmas.List.Elements.{All-weaker}
-use Rattle.path_meaning.specs.Graphs.{nodes}
+use Rattle.switch_paths.specs.Graphs.{nodes}
 use Rattle.told_lines.specs.Lines.{Line, AreInRoom, room_of}
 use Rattle.node_looks.specs.Looks.{looked_lines, node_lines}
 use Rattle.script_lang.specs.declared.command.Command.TheVariants as family

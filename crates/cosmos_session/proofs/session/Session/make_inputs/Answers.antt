@@ -3,7 +3,7 @@ use Rattle.std.proofs.Common.{◌≡◌, ◌<◌, ◌+◌, ◌∷◌, [], ℕ, L
 use Rattle.std.proofs.lemmas.List.{drop_more}
 use Rattle.netlist.specs.Circuits.{CircuitData}
 use Rattle.netlist.specs.Edits.{with_input}
-use Rattle.path_meaning.specs.Graphs.{nodes}
+use Rattle.switch_paths.specs.Graphs.{nodes}
 use Rattle.column_stage.proofs.LeadingLemmas.{leads_by_both}
 use Rattle.session_meaning.specs.Effects.{with_inputs}
 use Rattle.session_meaning.specs.Sessions.{SessionData}

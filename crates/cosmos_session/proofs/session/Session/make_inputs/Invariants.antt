@@ -1,6 +1,6 @@
 -- The nodes before this one are input nodes.
 use Rattle.std.proofs.Common.{◌≡◌, drop}
-use Rattle.path_meaning.specs.Graphs.{nodes}
+use Rattle.switch_paths.specs.Graphs.{nodes}
 use Rattle.column_stage.specs.Acts.{LeadsBy}
 use Rattle.session_meaning.specs.Effects.{with_inputs}
 use Rattle.session_meaning.specs.Stages.{IsEditing}

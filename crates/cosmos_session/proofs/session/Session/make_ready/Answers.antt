@@ -1,6 +1,6 @@
 use Rattle.std.proofs.Common.{◌≡◌, ℕ, List, Option, Err, sym, ap, subst, arith, inl, inr}
 use Rattle.ternary.specs.Counts.{raised}
-use Rattle.path_meaning.specs.Graphs.{GraphData}
+use Rattle.switch_paths.specs.Graphs.{GraphData}
 use Rattle.group_text.specs.Texts.{GroupTextData}
 use Rattle.group_analysis.specs.Using.{used_texts}
 use Rattle.analysis_cache.specs.Keeping.{texts_of}
@@ -34,16 +34,18 @@ build_stage-requires-clause-serves g c = rw c.graph-graph.ensures.value c.self.i
 
 pub invariant_of-self : goal.invariant_of-self
 invariant_of-self g c = (
-  held_built g.M.Stage.lanes g.M.Stage.states g.M.Stage.serves (session_of c.self.invariant.0) c.build_stage.new.stage c.build_stage.new.kept.bound _
-      c.saturating_add-self-inside.result c.build_stage.ensures.state c.build_stage.ensures.lanes c.build_stage.ensures.states
+  held_built g.M.Stage.columns g.M.Stage.states g.M.Stage.serves (session_of c.self.invariant.0) c.build_stage.new.stage
+      c.build_stage.new.kept.bound _
+      c.saturating_add-self-inside.result c.build_stage.ensures.state c.build_stage.ensures.columns c.build_stage.ensures.states
       (rw c.graph-graph.ensures.value at c.build_stage.ensures.serves) c.self.invariant.0,
   c.build_stage.ensures.last,
 )
 
 pub invariant_of-self-in-Err : goal.invariant_of-self-in-Err
 invariant_of-self-in-Err g c = (
-  held_built g.M.Stage.lanes g.M.Stage.states g.M.Stage.serves (session_of c.self.invariant.0) c.build_stage.new.stage c.build_stage.new.kept.bound _
-      (session_of c.self.invariant.0).core.fresh c.build_stage.ensures.state c.build_stage.ensures.lanes c.build_stage.ensures.states
+  held_built g.M.Stage.columns g.M.Stage.states g.M.Stage.serves (session_of c.self.invariant.0) c.build_stage.new.stage
+      c.build_stage.new.kept.bound _
+      (session_of c.self.invariant.0).core.fresh c.build_stage.ensures.state c.build_stage.ensures.columns c.build_stage.ensures.states
       (rw c.graph-graph.ensures.value at c.build_stage.ensures.serves) c.self.invariant.0,
   c.build_stage.ensures.last,
 )
@@ -53,7 +55,7 @@ returns-in-Ok-clause-readies g c =
     let session = session_of c.self.invariant.0 in
     let counted : c.saturating_add-self-inside.result ≡ raised session.core.fresh c.in-Ok.fresh = omega arith in
     rw (← c.self.view_is)
-    (readied_built g.M.Stage.lanes g.M.Stage.states g.M.Stage.serves session c.build_stage.new.stage c.build_stage.new.kept.bound _
+    (readied_built g.M.Stage.columns g.M.Stage.states g.M.Stage.serves session c.build_stage.new.stage c.build_stage.new.kept.bound _
     c.saturating_add-self-inside.result c.build_stage.ensures.state g.M.Stage.did c.in-Ok.fresh _ _
     (rw c.graph-graph.ensures.value at c.in-Ok.ensures.builds) (rw c.graph-graph.ensures.value at c.in-Ok.ensures.did) c.build_stage.ensures.bound counted)
 

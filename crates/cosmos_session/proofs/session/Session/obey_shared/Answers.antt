@@ -4,8 +4,8 @@ use Rattle.column_stage.proofs.SoundLemmas.{first_of_some}
 use Rattle.script_lang.specs.declared.command.Command.{Command}
 use Rattle.script_lang.specs.declared.command.Command.TheVariants as family
 use Rattle.script_lang.specs.Forms as form
-use Rattle.lane_script.specs.declared.command.LaneCommand.TheVariants.{Shared}
-use Rattle.lane_script.specs.Commands.{IsShared}
+use Rattle.column_script.specs.declared.command.ColumnCommand.TheVariants.{Shared}
+use Rattle.column_script.specs.Commands.{IsShared}
 use Rattle.session_meaning.specs.Columns.{column_of}
 use Rattle.session_meaning.proofs.InAllLemmas.{quietly_faults, quietly_obeys}
 use Rattle.cosmos_session.proofs.session.Session.obey_shared.Goals as goal
@@ -19,30 +19,30 @@ run_columns-requires g c = record { formed = subst (λ (command : Command). form
 pub returns-in-Edit-clause-obeys : goal.returns-in-Edit-clause-obeys
 returns-in-Edit-clause-obeys g c =
     let old = c.args.self.now in
-    rw c.in-Edit.is (quietly_obeys g.M.Stage.cuts g.L.Lines.hear g.L.Lines.part (g.M.Stage.lanes old.stage) (column_of g.M.Stage.states old)
+    rw c.in-Edit.is (quietly_obeys g.M.Stage.cuts g.L.Lines.hear g.L.Lines.part (g.M.Stage.columns old.stage) (column_of g.M.Stage.states old)
     (column_of g.M.Stage.states c.edit_columns.new.self) (Shared (family.Edit c.in-Edit.edit)) _ _ _
-    (first_of_some (g.M.Stage.lanes old.stage) c.requires.session.some) refl c.edit_columns.result c.edit_columns.ensures.quiet)
+    (first_of_some (g.M.Stage.columns old.stage) c.requires.session.some) refl c.edit_columns.result c.edit_columns.ensures.quiet)
 
 pub returns-in-Edit-clause-faults : goal.returns-in-Edit-clause-faults
 returns-in-Edit-clause-faults g c =
     let old = c.args.self.now in
-    quietly_faults g.M.Stage.cuts g.L.Lines.hear g.L.Lines.part (g.M.Stage.lanes old.stage) (column_of g.M.Stage.states old)
+    quietly_faults g.M.Stage.cuts g.L.Lines.hear g.L.Lines.part (g.M.Stage.columns old.stage) (column_of g.M.Stage.states old)
     (column_of g.M.Stage.states c.edit_columns.new.self) (Shared (family.Edit c.in-Edit.edit)) _
-    (first_of_some (g.M.Stage.lanes old.stage) c.requires.session.some) c.edit_columns.result c.edit_columns.ensures.quiet
+    (first_of_some (g.M.Stage.columns old.stage) c.requires.session.some) c.edit_columns.result c.edit_columns.ensures.quiet
 
 pub returns-in-Setup-clause-obeys : goal.returns-in-Setup-clause-obeys
 returns-in-Setup-clause-obeys g c =
     let old = c.args.self.now in
-    rw c.in-Setup.is (quietly_obeys g.M.Stage.cuts g.L.Lines.hear g.L.Lines.part (g.M.Stage.lanes old.stage) (column_of g.M.Stage.states old)
+    rw c.in-Setup.is (quietly_obeys g.M.Stage.cuts g.L.Lines.hear g.L.Lines.part (g.M.Stage.columns old.stage) (column_of g.M.Stage.states old)
     (column_of g.M.Stage.states c.set_up_columns.new.self) (Shared (family.Setup c.in-Setup.setup)) _ _ _
-    (first_of_some (g.M.Stage.lanes old.stage) c.requires.session.some) refl c.set_up_columns.result c.set_up_columns.ensures.quiet)
+    (first_of_some (g.M.Stage.columns old.stage) c.requires.session.some) refl c.set_up_columns.result c.set_up_columns.ensures.quiet)
 
 pub returns-in-Setup-clause-faults : goal.returns-in-Setup-clause-faults
 returns-in-Setup-clause-faults g c =
     let old = c.args.self.now in
-    quietly_faults g.M.Stage.cuts g.L.Lines.hear g.L.Lines.part (g.M.Stage.lanes old.stage) (column_of g.M.Stage.states old)
+    quietly_faults g.M.Stage.cuts g.L.Lines.hear g.L.Lines.part (g.M.Stage.columns old.stage) (column_of g.M.Stage.states old)
     (column_of g.M.Stage.states c.set_up_columns.new.self) (Shared (family.Setup c.in-Setup.setup)) _
-    (first_of_some (g.M.Stage.lanes old.stage) c.requires.session.some) c.set_up_columns.result c.set_up_columns.ensures.quiet
+    (first_of_some (g.M.Stage.columns old.stage) c.requires.session.some) c.set_up_columns.result c.set_up_columns.ensures.quiet
 
 pub returns-in-Run-clause-obeys : goal.returns-in-Run-clause-obeys
 returns-in-Run-clause-obeys g c = rw c.in-Run.is c.run_columns.ensures.obeys

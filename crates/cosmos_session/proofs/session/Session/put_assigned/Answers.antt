@@ -1,7 +1,7 @@
 use Rattle.std.proofs.Common.{◌<◌, ℕ, List, All, length, sym, ap, subst, ◌∙◌}
 use Rattle.ternary.specs.declared.tern.Tern.{Tern}
-use Rattle.path_meaning.specs.Graphs.{nodes}
-use Rattle.path_meaning.specs.Rails.{IsSound}
+use Rattle.switch_paths.specs.Graphs.{nodes}
+use Rattle.switch_paths.specs.Rails.{IsSound}
 use Rattle.group_text.specs.Texts.{GroupTextData}
 use Rattle.group_analysis.specs.Using.{used_texts}
 use Rattle.analysis_cache.specs.Keeping.{texts_of}
@@ -15,7 +15,7 @@ pub assign-requires-clause-one : goal.assign-requires-clause-one
 assign-requires-clause-one g c = g.met.M.PlainStage.one c.self.inside.stage
 
 pub assign-requires-clause-sound : goal.assign-requires-clause-sound
-assign-requires-clause-sound g c = sound_held g.M.Stage.lanes g.M.Stage.states g.M.Stage.serves _ c.self.invariant.0
+assign-requires-clause-sound g c = sound_held g.M.Stage.columns g.M.Stage.states g.M.Stage.serves _ c.self.invariant.0
 
 pub assign-requires-clause-within : goal.assign-requires-clause-within
 assign-requires-clause-within g c =
@@ -28,7 +28,7 @@ invariant_of-self g c =
     let list = c.args.states.now in
     let stage = c.assign.new.stage in
     let table = texts_of c.self.inside.kept in (
-      held_moved g.M.Stage.lanes g.M.Stage.states g.M.Stage.serves session stage session.core.count (used_texts (g.M.Stage.last stage) table)
+      held_moved g.M.Stage.columns g.M.Stage.states g.M.Stage.serves session stage session.core.count (used_texts (g.M.Stage.last stage) table)
           (ap (λ (last : List GroupTextData). used_texts last table) c.assign.ensures.last) c.assign.ensures.one
           (ap length c.assign.ensures.state ∙ length-assigned list session.core.state ∙ held.core.ready.states)
           (subst IsSound (sym c.assign.ensures.state) (sound-assigned list session.core.state c.requires.past held.core.ready.sound))

@@ -24,9 +24,9 @@ invariant_of-self g c =
     let core = session.core in
     let stage = c.put_states.new.stage in
     let table = texts_of c.self.inside.kept in (
-      held_beside g.M.Stage.lanes g.M.Stage.states g.M.Stage.serves session stage core.count (used_texts (g.M.Stage.last stage) table)
+      held_beside g.M.Stage.columns g.M.Stage.states g.M.Stage.serves session stage core.count (used_texts (g.M.Stage.last stage) table)
           (ap (λ (last : List GroupTextData). used_texts last table) c.put_states.ensures.last)
-          (subst (λ (n : ℕ). 1 ≤ n) (sym c.put_states.ensures.lanes) held.some) (rw c.graph.ensures.value at c.put_states.ensures.sound)
+          (subst (λ (n : ℕ). 1 ≤ n) (sym c.put_states.ensures.columns) held.some) (rw c.graph.ensures.value at c.put_states.ensures.sound)
           ((rw c.graph.ensures.value at c.put_states.ensures.serves) core.kept held.served) held,
       same_among _ _ table c.put_states.ensures.last c.self.invariant.1,
     )

@@ -1,7 +1,7 @@
 -- The stage's columns have their letters, and the rest of the session stays.
 use Rattle.std.proofs.Common.{◌≡◌, ℕ, ◌≤◌, true, List, All, is_some, refl, sym, ap, subst}
 use Rattle.ternary.specs.declared.tern.Tern.{Tern}
-use Rattle.path_meaning.specs.declared.TheConstants.{RAILS}
+use Rattle.switch_paths.specs.declared.TheConstants.{RAILS}
 use Rattle.netlist.specs.Edits.{node_named}
 use Rattle.netlist.specs.Names.{node_of}
 use Rattle.group_text.specs.Texts.{GroupTextData}
@@ -18,7 +18,7 @@ place_letters-requires-clause-sound g c = c.self.invariant.0.sound
 
 pub place_letters-requires-clause-fit : goal.place_letters-requires-clause-fit
 place_letters-requires-clause-fit g c =
-    subst (λ (s : HeldSession _). All (λ (item : List ℕ × List Tern). IsLetters (g.M.Stage.lanes s.stage) item.1) c.args.list.now) (sym c.self.view_is)
+    subst (λ (s : HeldSession _). All (λ (item : List ℕ × List Tern). IsLetters (g.M.Stage.columns s.stage) item.1) c.args.list.now) (sym c.self.view_is)
     c.requires.fit
 
 pub place_letters-requires-clause-known : goal.place_letters-requires-clause-known
@@ -37,9 +37,9 @@ invariant_of-self g c =
     let session = session_of c.self.invariant.0 in
     let stage = c.place_letters.new.stage in
     let table = texts_of c.self.inside.kept in (
-      held_beside g.M.Stage.lanes g.M.Stage.states g.M.Stage.serves session stage session.core.count (used_texts (g.M.Stage.last stage) table)
+      held_beside g.M.Stage.columns g.M.Stage.states g.M.Stage.serves session stage session.core.count (used_texts (g.M.Stage.last stage) table)
           (ap (λ (last : List GroupTextData). used_texts last table) c.place_letters.ensures.last)
-          (subst (λ (n : ℕ). 1 ≤ n) (sym c.place_letters.ensures.lanes) held.some) c.place_letters.ensures.sound
+          (subst (λ (n : ℕ). 1 ≤ n) (sym c.place_letters.ensures.columns) held.some) c.place_letters.ensures.sound
           (c.place_letters.ensures.serves session.core.kept held.served) held,
       same_among _ _ table c.place_letters.ensures.last c.self.invariant.1,
     )
@@ -54,5 +54,5 @@ returns-clause-core g c =
 pub returns-clause-stage : goal.returns-clause-stage
 returns-clause-stage g c = rw (← c.self.view_is) c.place_letters.ensures.did
 
-pub returns-clause-lanes : goal.returns-clause-lanes
-returns-clause-lanes g c = rw (← c.self.view_is) c.place_letters.ensures.lanes
+pub returns-clause-columns : goal.returns-clause-columns
+returns-clause-columns g c = rw (← c.self.view_is) c.place_letters.ensures.columns

@@ -29,7 +29,7 @@ pub take_room-requires : goal.take_room-requires
 take_room-requires g c = c.self.invariant.0.some
 
 pub edit_stage-requires-clause-some : goal.edit_stage-requires-clause-some
-edit_stage-requires-clause-some g c = subst (λ (n : ℕ). 1 ≤ n) (sym c.take_room.ensures.lanes) c.self.invariant.0.some
+edit_stage-requires-clause-some g c = subst (λ (n : ℕ). 1 ≤ n) (sym c.take_room.ensures.columns) c.self.invariant.0.some
 
 pub edit_stage-requires-clause-before : goal.edit_stage-requires-clause-before
 edit_stage-requires-clause-before g c =
@@ -39,9 +39,9 @@ edit_stage-requires-clause-before g c =
     subst (λ (last : List GroupTextData). g.M.Stage.serves stage session.core.circuit.graph (used_texts last (texts_of c.self.inside.kept)))
     (sym c.take_room.ensures.last) (c.take_room.ensures.serves session.core.circuit.graph session.core.kept c.self.invariant.0.served) in
     rw c.graph-in-Ok.ensures.value
-    (asks_edit g.M.Stage.lanes g.M.Stage.states g.M.Stage.serves session c.self.invariant.0 c.rewire.new.self.graph c.change_of-change.result
+    (asks_edit g.M.Stage.columns g.M.Stage.states g.M.Stage.serves session c.self.invariant.0 c.rewire.new.self.graph c.change_of-change.result
     stage (g.M.Stage.spare stage) _ (undone g (goal.at.edit_stage-requires-clause-before g c).In-Ok)
-    (sound_still g.M.Stage.lanes g.M.Stage.states session.core.circuit.graph c.self.inside.stage stage c.take_room.ensures.lanes c.take_room.ensures.states
+    (sound_still g.M.Stage.columns g.M.Stage.states session.core.circuit.graph c.self.inside.stage stage c.take_room.ensures.columns c.take_room.ensures.states
     c.self.invariant.0.sound)
     (room_wires session.core.circuit c.rewire.new.self c.args.number (g.M.Stage.spare stage)
     c.items-gate.result.now c.items-source.result.now c.items-drain.result.now c.in-Ok.ensures.ok c.in_ok-take_room.ensures.room) serves)
@@ -51,12 +51,12 @@ invariant_of-self-in-Ok g c =
     let session = session_of c.self.invariant.0 in
     let table = texts_of c.self.inside.kept in
     let front = ap (λ (last : List GroupTextData). used_texts last table) c.take_room.ensures.last in (
-      held_edited g.M.Stage.lanes g.M.Stage.states g.M.Stage.serves session c.rewire.new.self c.edit_stage.new.stage c.edit_stage.new.kept.bound _
+      held_edited g.M.Stage.columns g.M.Stage.states g.M.Stage.serves session c.rewire.new.self c.edit_stage.new.stage c.edit_stage.new.kept.bound _
           (rw (c.graph-in-Ok.ensures.value, c.take_room.ensures.state) at c.edit_stage.ensures.state) c.edit_stage.ensures.bound
           (c.edit_stage.ensures.kept ∙ front) c.graph-in-Ok.ensures.netlist (undone g (goal.at.invariant_of-self-in-Ok g c).In-Ok).more
-          (c.edit_stage.ensures.lanes ∙ c.take_room.ensures.lanes)
-          (grown_behind g.M.Stage.lanes g.M.Stage.states g.M.Stage.serves c.self.inside.stage c.take_room.new.stage c.edit_stage.new.stage _
-          c.take_room.ensures.lanes c.take_room.ensures.states (rw c.graph-in-Ok.ensures.value at c.edit_stage.ensures.states))
+          (c.edit_stage.ensures.columns ∙ c.take_room.ensures.columns)
+          (grown_behind g.M.Stage.columns g.M.Stage.states g.M.Stage.serves c.self.inside.stage c.take_room.new.stage c.edit_stage.new.stage _
+          c.take_room.ensures.columns c.take_room.ensures.states (rw c.graph-in-Ok.ensures.value at c.edit_stage.ensures.states))
           (rw (c.graph-in-Ok.ensures.value, c.take_room.ensures.last) at c.edit_stage.ensures.serves) c.self.invariant.0,
       c.edit_stage.ensures.last,
     )
@@ -70,7 +70,7 @@ returns-in-Ok-clause-quiet g c =
     (rewired_does session.core _ c.rewire.new.self c.args.number c.args.gate.now c.args.source.now c.args.drain.now
     (rw (c.items-gate.ensures, c.items-source.ensures, c.items-drain.ensures) at c.in-Ok.ensures.allowed)
     (rw (c.items-gate.ensures, c.items-source.ensures, c.items-drain.ensures) at c.in-Ok.ensures.ok)
-    (core_edited g.M.Stage.lanes g.M.Stage.states g.M.Stage.serves session c.rewire.new.self c.edit_stage.new.stage c.edit_stage.new.kept.bound _
+    (core_edited g.M.Stage.columns g.M.Stage.states g.M.Stage.serves session c.rewire.new.self c.edit_stage.new.stage c.edit_stage.new.kept.bound _
     (rw (c.graph-in-Ok.ensures.value, c.take_room.ensures.state) at c.edit_stage.ensures.state) c.edit_stage.ensures.bound
     (c.edit_stage.ensures.kept ∙ front)))
 

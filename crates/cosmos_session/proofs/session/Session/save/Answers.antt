@@ -1,6 +1,6 @@
 use Rattle.std.proofs.Common.{◌≡◌, ℕ, List, refl, sym, subst}
 use Rattle.ternary.specs.declared.tern.Tern.{Tern}
-use Rattle.path_meaning.specs.Graphs.{nodes}
+use Rattle.switch_paths.specs.Graphs.{nodes}
 use Rattle.session_meaning.specs.Saves.{FitsSave, with_save}
 use Rattle.session_meaning.specs.Sessions.{IsSession}
 use Rattle.session_meaning.proofs.StayingLemmas.{session_of}

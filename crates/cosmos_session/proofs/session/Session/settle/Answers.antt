@@ -33,7 +33,7 @@ invariant_of-self g c =
     let joined = settled.result.joined in
     let table = texts_of c.self.inside.kept in
     let settles = (rw c.graph-graph.ensures.value at settled.ensures.settles) in (
-      held_moved g.M.Stage.lanes g.M.Stage.states g.M.Stage.serves session stage c.saturating_add-self-inside.result (used_texts (g.M.Stage.last stage) table)
+      held_moved g.M.Stage.columns g.M.Stage.states g.M.Stage.serves session stage c.saturating_add-self-inside.result (used_texts (g.M.Stage.last stage) table)
           (ap (λ (last : List GroupTextData). used_texts last table) settled.ensures.last) (g.met.M.PlainStage.one stage)
           (length-settles core.circuit.graph core.state core.limit next steps joined held.core.ready.states settles)
           (sound-settles core.circuit held.core.ready.netlist core.state core.limit next steps joined held.core.ready.states settles held.core.ready.sound)

@@ -1,6 +1,6 @@
 -- The stage's phase is each column's.
 use Rattle.std.proofs.Common.{ℕ, ◌≡◌, ◌≤◌, List, false, length, refl, sym, ap, subst, rules}
-use Rattle.oscillation_x.specs.declared.settling.Settled.{Settled}
+use Rattle.settling.specs.declared.settling.Settled.{Settled}
 use Rattle.group_text.specs.Texts.{GroupTextData}
 use Rattle.group_analysis.specs.Using.{used_texts}
 use Rattle.analysis_cache.specs.Keeping.{texts_of}
@@ -19,7 +19,7 @@ settle-requires-clause-fits g c =
 
 pub settle-requires-clause-counts : goal.settle-requires-clause-counts
 settle-requires-clause-counts g c =
-    subst (λ (s : HeldSession _). length c.args.counts.now ≡ g.M.Stage.lanes s.stage) (sym c.self.view_is) c.requires.counts
+    subst (λ (s : HeldSession _). length c.args.counts.now ≡ g.M.Stage.columns s.stage) (sym c.self.view_is) c.requires.counts
 
 pub invariant_of-self : goal.invariant_of-self
 invariant_of-self g c =
@@ -30,11 +30,11 @@ invariant_of-self g c =
     let table = texts_of c.self.inside.kept in
     let none : Settled = record { steps = 0; joined = false } in
     let settles = (rw c.graph-graph.ensures.value at c.settle.ensures.settles) in (
-      held_beside g.M.Stage.lanes g.M.Stage.states g.M.Stage.serves session stage c.saturating_add-self-inside.result (used_texts (g.M.Stage.last stage) table)
+      held_beside g.M.Stage.columns g.M.Stage.states g.M.Stage.serves session stage c.saturating_add-self-inside.result (used_texts (g.M.Stage.last stage) table)
           (ap (λ (last : List GroupTextData). used_texts last table) c.settle.ensures.last)
-          (subst (λ (n : ℕ). 1 ≤ n) (sym c.settle.ensures.lanes) held.some)
-          (sounds_settled core.circuit held.core.ready.netlist (g.M.Stage.states session.stage) (g.M.Stage.states stage) (g.M.Stage.lanes session.stage)
-          (g.M.Stage.lanes stage) core.limit (count_in c.settle.new.counts) c.settle.ensures.lanes (λ lane inside. settles lane none inside) held.sound)
+          (subst (λ (n : ℕ). 1 ≤ n) (sym c.settle.ensures.columns) held.some)
+          (sounds_settled core.circuit held.core.ready.netlist (g.M.Stage.states session.stage) (g.M.Stage.states stage) (g.M.Stage.columns session.stage)
+          (g.M.Stage.columns stage) core.limit (count_in c.settle.new.counts) c.settle.ensures.columns (λ column inside. settles column none inside) held.sound)
           ((rw c.graph-graph.ensures.value at c.settle.ensures.serves) core.kept held.served) held,
       same_among _ _ table c.settle.ensures.last c.self.invariant.1,
     )
@@ -54,5 +54,5 @@ returns-clause-settles g c = rw (← c.self.view_is) (rw c.graph-graph.ensures.v
 pub returns-clause-fits : goal.returns-clause-fits
 returns-clause-fits g c = rw c.graph-graph.ensures.value at c.settle.ensures.fits
 
-pub returns-clause-lanes : goal.returns-clause-lanes
-returns-clause-lanes g c = rw (← c.self.view_is) c.settle.ensures.lanes
+pub returns-clause-columns : goal.returns-clause-columns
+returns-clause-columns g c = rw (← c.self.view_is) c.settle.ensures.columns

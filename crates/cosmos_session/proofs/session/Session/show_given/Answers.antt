@@ -1,7 +1,7 @@
 -- The nodes that were given states, or all, list those at which the state differs from the one that is known.
 use Rattle.std.proofs.Common.{◌≡◌, ◌∙◌, subst, ap}
 use Rattle.session_meaning.specs.Sessions.{HeldSession, IsSession}
-use Rattle.oscillation_x.proofs.NumbersLemmas.{listed_after}
+use Rattle.settling.proofs.NumbersLemmas.{listed_after}
 use Rattle.cosmos_session.proofs.ShowingLemmas.{given_by-lists}
 use Rattle.cosmos_session.proofs.session.Session.show_given.Goals as goal
 

@@ -12,7 +12,7 @@ invariant_of-result g c =
     let table = texts_of c.args.kept in
     let last = c.still.ensures.last in (
       rw (c.new.ensures.items, c.new-2.ensures.items, c.new-vectors.ensures, c.new-3.ensures.items)
-          (held_start g.M.Stage.lanes g.M.Stage.states g.M.Stage.serves c.args.circuit c.still.result c.args.kept.bound
+          (held_start g.M.Stage.columns g.M.Stage.states g.M.Stage.serves c.args.circuit c.still.result c.args.kept.bound
           (used_texts (g.M.Stage.last c.still.result) table) c.graph-graph.ensures.netlist (c.still.ensures.state ∙ c.in_ok-state.ensures) c.requires
           c.still.ensures.one (c.still.ensures.serves _ _)),
       same_among _ _ table last (none_missing table),

@@ -1,7 +1,7 @@
 use Rattle.std.proofs.Common.{◌≡◌, ◌<◌, ℕ, List, All, None, refl, sym, subst}
 use Rattle.std.proofs.lemmas.Result.{IfOk-weaker}
 use Rattle.ternary.specs.declared.tern.Tern.{Tern}
-use Rattle.path_meaning.specs.Graphs.{nodes}
+use Rattle.switch_paths.specs.Graphs.{nodes}
 use Rattle.session_meaning.specs.Refusals.{first_refusal, place_refusal}
 use Rattle.session_meaning.proofs.ValueLemmas.{states-within}
 use Rattle.session_meaning.proofs.StayingLemmas.{session_of}

@@ -1,6 +1,6 @@
 -- The stage's step is each column's.
 use Rattle.std.proofs.Common.{ℕ, ◌≤◌, List, refl, sym, ap, subst, rules}
-use Rattle.path_meaning.specs.Graphs.{GraphData}
+use Rattle.switch_paths.specs.Graphs.{GraphData}
 use Rattle.group_text.specs.Texts.{GroupTextData}
 use Rattle.group_analysis.specs.Using.{used_texts}
 use Rattle.analysis_cache.specs.Keeping.{texts_of}
@@ -23,11 +23,11 @@ invariant_of-self g c =
     let core = session.core in
     let stage = c.step.new.self in
     let table = texts_of c.self.inside.kept in (
-      held_beside g.M.Stage.lanes g.M.Stage.states g.M.Stage.serves session stage c.saturating_add-self-inside.result (used_texts (g.M.Stage.last stage) table)
+      held_beside g.M.Stage.columns g.M.Stage.states g.M.Stage.serves session stage c.saturating_add-self-inside.result (used_texts (g.M.Stage.last stage) table)
           (ap (λ (last : List GroupTextData). used_texts last table) c.step.ensures.last)
-          (subst (λ (n : ℕ). 1 ≤ n) (sym c.step.ensures.lanes) held.some)
-          (sounds_stepped core.circuit held.core.ready.netlist (g.M.Stage.states session.stage) (g.M.Stage.states stage) (g.M.Stage.lanes session.stage)
-          (g.M.Stage.lanes stage) c.step.ensures.lanes (rw c.graph.ensures.value at c.step.ensures.steps) held.sound)
+          (subst (λ (n : ℕ). 1 ≤ n) (sym c.step.ensures.columns) held.some)
+          (sounds_stepped core.circuit held.core.ready.netlist (g.M.Stage.states session.stage) (g.M.Stage.states stage) (g.M.Stage.columns session.stage)
+          (g.M.Stage.columns stage) c.step.ensures.columns (rw c.graph.ensures.value at c.step.ensures.steps) held.sound)
           ((rw c.graph.ensures.value at c.step.ensures.serves) core.kept held.served) held,
       same_among _ _ table c.step.ensures.last c.self.invariant.1,
     )
@@ -44,5 +44,5 @@ returns-clause-core g c =
 pub returns-clause-steps : goal.returns-clause-steps
 returns-clause-steps g c = rw (← c.self.view_is) (rw c.graph.ensures.value at c.step.ensures.steps)
 
-pub returns-clause-lanes : goal.returns-clause-lanes
-returns-clause-lanes g c = rw (← c.self.view_is) c.step.ensures.lanes
+pub returns-clause-columns : goal.returns-clause-columns
+returns-clause-columns g c = rw (← c.self.view_is) c.step.ensures.columns

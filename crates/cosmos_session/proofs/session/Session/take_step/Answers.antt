@@ -1,6 +1,6 @@
 -- The stage's step is the session's.
 use Rattle.std.proofs.Common.{List, refl, sym, ap, subst, rules}
-use Rattle.oscillation_x.specs.Passing.{SteppingThrough}
+use Rattle.settling.specs.Passing.{SteppingThrough}
 use Rattle.group_text.specs.Texts.{GroupTextData}
 use Rattle.group_analysis.specs.Using.{used_texts}
 use Rattle.analysis_cache.specs.Keeping.{texts_of}
@@ -29,7 +29,7 @@ invariant_of-self g c =
     let stage = c.step_seen.new.self in
     let table = texts_of c.self.inside.kept in
     let step = (rw c.graph.ensures.value at c.step_seen.ensures.step) in (
-      held_moved g.M.Stage.lanes g.M.Stage.states g.M.Stage.serves session stage c.saturating_add-self-inside.result (used_texts (g.M.Stage.last stage) table)
+      held_moved g.M.Stage.columns g.M.Stage.states g.M.Stage.serves session stage c.saturating_add-self-inside.result (used_texts (g.M.Stage.last stage) table)
           (ap (λ (last : List GroupTextData). used_texts last table) c.step_seen.ensures.last) (g.met.M.PlainStage.one stage)
           step.count (sound-step core.circuit held.core.ready.netlist core.state (g.M.Stage.states stage 0) step held.core.ready.sound)
           ((rw c.graph.ensures.value at c.step_seen.ensures.serves) core.kept held.served) held,

@@ -1,7 +1,7 @@
 -- The nodes of a name are nodes of the circuit, and so each has a state.
 use Rattle.std.proofs.Common.{◌≡◌, ◌<◌, ℕ, List, [], ◌∷◌, All, Option, Some, None, sym, subst}
 use Rattle.std.specs.Prelude.{unwrap_or}
-use Rattle.path_meaning.specs.Graphs.{nodes}
+use Rattle.switch_paths.specs.Graphs.{nodes}
 use Rattle.netlist.specs.Names.{node_of}
 use Rattle.netlist.specs.Circuits.{CircuitData}
 use Rattle.node_words.specs.Words.{list_of, node_or_list}

@@ -1,6 +1,6 @@
 -- The stage's numbers are those of the circuit's groups and of their texts.
 use Rattle.std.proofs.Common.{◌∷◌, [], List, sym, subst}
-use Rattle.path_meaning.specs.Graphs.{GraphData}
+use Rattle.switch_paths.specs.Graphs.{GraphData}
 use Rattle.group_text.specs.Texts.{GroupTextData}
 use Rattle.circuit_texts.specs.Building.{HasTexts}
 use Rattle.told_lines.specs.Lines.{Reported}

@@ -1,6 +1,6 @@
 use Rattle.std.proofs.Common.{◌<◌, ℕ, All, sym, subst}
 use Rattle.vector_values.specs.Values.{Letter}
-use Rattle.path_meaning.specs.Graphs.{nodes}
+use Rattle.switch_paths.specs.Graphs.{nodes}
 use Rattle.session_meaning.specs.Sessions.{HeldSession}
 use Rattle.session_meaning.proofs.StayingLemmas.{session_of}
 use Rattle.session_meaning.proofs.LineLemmas.{unmet_none, unmet_some}

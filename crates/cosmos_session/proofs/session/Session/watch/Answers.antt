@@ -1,6 +1,6 @@
 use Rattle.std.proofs.Common.{◌≡◌, ◌≤◌, ◌<◌, ◌++◌, ◌∙◌, ℕ, List, Vec, Global, Option, Some, IfSome, length, refl, sym, ap, subst, arith, length-append}
 use Rattle.std.proofs.lemmas.List.Elements.{All-append}
-use Rattle.path_meaning.specs.Graphs.{nodes}
+use Rattle.switch_paths.specs.Graphs.{nodes}
 use Rattle.session_meaning.specs.declared.TheConstants.{MOST_WATCHED}
 use Rattle.session_meaning.specs.Sessions.{IsSession}
 use Rattle.session_meaning.specs.Refusals.{all_named}

@@ -1,6 +1,6 @@
 -- There is a number for each node.
 use Rattle.std.proofs.Common.{length, rules}
-use Rattle.oscillation_x.proofs.NumbersLemmas.{numbers-count}
+use Rattle.settling.proofs.NumbersLemmas.{numbers-count}
 use Rattle.cosmos_session.proofs.showing.WholeMoved.change_count.Goals as goal
 
 pub returns : goal.returns

@@ -1,6 +1,6 @@
 -- The number that stands at a place is the place.
 use Rattle.std.proofs.Common.{◌<◌, length, arith}
-use Rattle.oscillation_x.proofs.NumbersLemmas.{numbers-count, number_at}
+use Rattle.settling.proofs.NumbersLemmas.{numbers-count, number_at}
 use Rattle.cosmos_session.proofs.showing.WholeMoved.changed_node.Goals as goal
 
 pub returns : goal.returns

@@ -1,6 +1,6 @@
 use Rattle.std.proofs.Common.{◌≡◌, [], ◌∷◌, List, map, rules, subst}
 use Rattle.ternary.specs.declared.tern.Tern.{Tern}
-use Rattle.path_meaning.specs.Switching.{state_at}
+use Rattle.switch_paths.specs.Switching.{state_at}
 use Rattle.told_lines.specs.Lines.{Shown}
 use Rattle.session_meaning.specs.Outcomes.{Sent}
 use Rattle.cosmos_session.proofs.waves.WaveRoom.show.Goals as goal

@@ -1,7 +1,7 @@
 -- The values are the states of the nodes in each column, so the row is that of all columns.
 use Rattle.std.proofs.Common.{◌≡◌, ℕ, ◌<◌, List, length, map, ap, subst, ◌∙◌}
 use Rattle.ternary.specs.declared.tern.Tern.{Tern}
-use Rattle.path_meaning.specs.Switching.{state_at}
+use Rattle.switch_paths.specs.Switching.{state_at}
 use Rattle.told_lines.specs.Hearing.{Hears}
 use Rattle.told_lines.specs.Lines.{Line, Told, Wave}
 use Rattle.told_lines.specs.Rows.{count_at, wave_at}
@@ -13,11 +13,11 @@ returns-clause-sent g c =
     let counts = c.args.counts.now in
     let nodes : List ℕ = c.args.nodes.now in
     let values : List Tern = c.deref.result.now in
-    let lanes : ℕ = g.M.Stage.lanes c.args.stage.now in
+    let columns : ℕ = g.M.Stage.columns c.args.stage.now in
     let told : ℕ → Line = wave_at c.args.n counts (length nodes) values in
-    let meant : ℕ → Line = λ lane. Wave c.args.n (count_at counts lane).steps (count_at counts lane).joined (map (state_at (g.M.Stage.states c.args.stage.now lane)) nodes) in
-    let each : (lane : ℕ) → lane < lanes → told lane ≡ meant lane = λ lane inside.
-    ap (λ (states : List Tern). Wave c.args.n (count_at counts lane).steps (count_at counts lane).joined states)
-    (rw c.deref.ensures.value (c.push_columns.ensures.each lane inside)) in
+    let meant : ℕ → Line = λ column. Wave c.args.n (count_at counts column).steps (count_at counts column).joined (map (state_at (g.M.Stage.states c.args.stage.now column)) nodes) in
+    let each : (column : ℕ) → column < columns → told column ≡ meant column = λ column inside.
+    ap (λ (states : List Tern). Wave c.args.n (count_at counts column).steps (count_at counts column).joined states)
+    (rw c.deref.ensures.value (c.push_columns.ensures.each column inside)) in
     subst (λ (row : List Told). Hears g.L.Lines.hear g.L.Lines.part (g.L.Lines.heard c.args.out.now) (g.L.Lines.heard c.tell_values-told.new.out) row c.tell_values-told.result)
-    (ap (row_of_lines told) c.requires.counts ∙ row-alike told meant lanes each) c.tell_values-told.ensures.sent
+    (ap (row_of_lines told) c.requires.counts ∙ row-alike told meant columns each) c.tell_values-told.ensures.sent

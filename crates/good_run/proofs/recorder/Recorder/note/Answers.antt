@@ -4,7 +4,7 @@ use Rattle.std.specs.Prelude.{vec_capacity}
 use Rattle.std.specs.Vec.{with_items}
 use Rattle.std.proofs.lemmas.Bool.{OnTrue_at, OnFalse_at, and_parts}
 use Rattle.std.proofs.lemmas.List.{with_items_is}
-use Rattle.oscillation_x.specs.Moved.{ListsChanges}
+use Rattle.settling.specs.Moved.{ListsChanges}
 use Rattle.good_run.specs.Recording.{RunData, look_at}
 use Rattle.good_run.specs.Looks.{IsRecord}
 use Rattle.good_run.proofs.RecordLemmas.{IsLookedAt, looks_with, looked_at, run_of}

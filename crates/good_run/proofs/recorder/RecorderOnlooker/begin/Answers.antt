@@ -1,6 +1,6 @@
 -- The state is noted, if there is room.
 use Rattle.std.proofs.Common.{true, sym, ap, subst, ◌∙◌}
-use Rattle.oscillation_x.specs.Moved.{ListsChanges}
+use Rattle.settling.specs.Moved.{ListsChanges}
 use Rattle.good_run.specs.Recording.{RunData}
 use Rattle.good_run.proofs.RecordLemmas.{look_known}
 use Rattle.good_run.proofs.recorder.RecorderOnlooker.begin.Goals as goal

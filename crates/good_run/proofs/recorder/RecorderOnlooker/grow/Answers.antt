@@ -1,7 +1,7 @@
 -- A state of as many nodes is the one that is known; one with new nodes is left out.
 use Rattle.std.proofs.Common.{false, sym, ap, subst, ◌∙◌}
 use Rattle.std.proofs.lemmas.Bool.{OnTrue_at, OnFalse_at}
-use Rattle.oscillation_x.specs.Moved.{IsGrown}
+use Rattle.settling.specs.Moved.{IsGrown}
 use Rattle.good_run.specs.Recording.{RunData}
 use Rattle.good_run.proofs.RecordLemmas.{look_known, look_lost, no_room_counted}
 use Rattle.good_run.proofs.GrowingLemmas.{grown_same, nothing_listed}

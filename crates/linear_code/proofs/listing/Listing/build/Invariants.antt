@@ -1,5 +1,5 @@
 -- So far the parts that were passed are added.
-use Rattle.path_meaning.specs.Graphs.{nodes}
+use Rattle.switch_paths.specs.Graphs.{nodes}
 use Rattle.linear_code.proofs.BuildLemmas.{AreAdded}
 use Rattle.linear_code.proofs.listing.Listing.build.Given as goal
 

@@ -1,6 +1,6 @@
 -- So far the nodes that were passed have moved, and the next states of the storage nodes among them are used up.
 use Rattle.std.proofs.Common.{◌≡◌, ℕ, ◌<◌, length}
-use Rattle.path_meaning.specs.Switching.{state_at}
+use Rattle.switch_paths.specs.Switching.{state_at}
 use Rattle.linear_code.specs.Listing.{storage_before, next_of}
 use Rattle.linear_code.proofs.listing.Listing.step.Given as goal
 

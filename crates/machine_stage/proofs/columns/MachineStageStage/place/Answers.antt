@@ -2,12 +2,12 @@
 use Rattle.std.proofs.Common.{subst}
 use Rattle.ternary.specs.declared.tern.Tern.{Tern}
 use Rattle.machine_stage.specs.Stages.{PutsIn}
-use Rattle.machine_stage.proofs.LetterLemmas.{first_letter, letter_of_lane}
+use Rattle.machine_stage.proofs.LetterLemmas.{first_letter, letter_of_column}
 use Rattle.machine_stage.proofs.ServingLemmas.{fits_put, last_put, serves_put}
 use Rattle.machine_stage.proofs.columns.MachineStageStage.place.Goals as goal
 
 pub returns-clause-states : goal.returns-clause-states
-returns-clause-states c = λ lane inside. letter_of_lane lane c.args.letters.now inside c.args.node c.args.self.now.state c.set_node.new.self.state c.set_node.ensures.state
+returns-clause-states c = λ column inside. letter_of_column column c.args.letters.now inside c.args.node c.args.self.now.state c.set_node.new.self.state c.set_node.ensures.state
 
 pub returns-clause-last : goal.returns-clause-last
 returns-clause-last c = last_put c.args.graph.now c.args.node _ c.args.self.now.machine c.set_node.new.self.machine c.set_node.ensures.machine

@@ -3,7 +3,7 @@ use Rattle.machine_stage.proofs.ServingLemmas.{fits_stepped, last_stepped, serve
 use Rattle.machine_stage.proofs.columns.MachineStageStage.step.Goals as goal
 
 pub returns-clause-steps : goal.returns-clause-steps
-returns-clause-steps c = λ lane inside. step_between c.args.graph.now c.args.self.now c.step_machine.new.self c.step_machine.ensures.moves
+returns-clause-steps c = λ column inside. step_between c.args.graph.now c.args.self.now c.step_machine.new.self c.step_machine.ensures.moves
 
 pub returns-clause-last : goal.returns-clause-last
 returns-clause-last c = last_stepped c.args.graph.now c.args.self.now c.step_machine.new.self c.step_machine.ensures.moves

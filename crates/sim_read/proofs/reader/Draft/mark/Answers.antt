@@ -1,6 +1,6 @@
 -- A node's number is below the number of nodes, which is a number of the machine.
 use Rattle.std.proofs.Common.{◌≡◌, ap, ◌∙◌, arith}
-use Rattle.path_meaning.specs.Graphs.{nodes}
+use Rattle.switch_paths.specs.Graphs.{nodes}
 use Rattle.sim_read.specs.Drafts.{DraftData}
 use Rattle.sim_read.proofs.reader.Draft.mark.Goals as goal
 

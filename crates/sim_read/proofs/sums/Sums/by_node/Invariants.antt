@@ -1,5 +1,5 @@
 use Rattle.std.proofs.Common.{◌≡◌, length}
-use Rattle.path_meaning.specs.Graphs.{nodes}
+use Rattle.switch_paths.specs.Graphs.{nodes}
 use Rattle.sim_read.proofs.SumLemmas.{AreSums}
 use Rattle.sim_read.proofs.sums.Sums.by_node.Given as goal
 

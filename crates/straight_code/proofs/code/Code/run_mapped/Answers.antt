@@ -2,7 +2,7 @@
 use Rattle.std.proofs.Common.{◌≡◌, ◌+◌, ◌*◌, ◌<◌, List, length, map, take, sym, ap, ◌∙◌, arith}
 use Rattle.std.proofs.lemmas.List.{length-map, length-take-le, take_all}
 use Rattle.ternary.specs.declared.tern.Tern.{Tern}
-use Rattle.path_meaning.specs.Switching.{state_at}
+use Rattle.switch_paths.specs.Switching.{state_at}
 use Rattle.straight_code.specs.Code.{results, output_state}
 use Rattle.straight_code.specs.Flat.{flat_values, step_of, pair_of}
 use Rattle.straight_code.proofs.RunMappedLemmas.{no_step, no_pair, no_output, reads_within, result_written, pair_within, state_written}

@@ -1,7 +1,7 @@
 -- So far the array begins with the constants, the rails and the results of the instructions that were passed, one step each, and out with
 -- the states of the outputs that were passed.
 use Rattle.std.proofs.Common.{◌≡◌, ◌+◌, take, map}
-use Rattle.path_meaning.specs.Switching.{state_at}
+use Rattle.switch_paths.specs.Switching.{state_at}
 use Rattle.straight_code.specs.Code.{results, output_state}
 use Rattle.straight_code.specs.Flat.{flat_values}
 use Rattle.straight_code.proofs.code.Code.run_mapped.Given as goal

@@ -1,6 +1,6 @@
 -- All that the gear has is of its parts, which are those of a machine that fits the graph, all of them marked.
 use Rattle.std.proofs.Common.{◌≡◌, length, ap, ◌∙◌}
-use Rattle.path_meaning.specs.Graphs.{nodes}
+use Rattle.switch_paths.specs.Graphs.{nodes}
 use Rattle.truth_parts.proofs.FittingLemmas.{FitsInAll-fresh}
 use Rattle.truth_machine.specs.Machines.{TruthData}
 use Rattle.truth_machine.proofs.GearLemmas.{IsTruthMachine-geared}
@@ -14,7 +14,7 @@ invariant_of-self g c =
     let counted : length i.hi.items ≡ nodes c.args.graph.now = ap (λ (d : TruthData _ _). length d.hi) c.self.view_is ∙ c.requires.counted in (
       IsTruthMachine-geared c.args.graph.now (g.T.Truths.columns i.truths) (g.T.Truths.has i.truths) (g.T.Truths.holds i.truths) c.args.gear i.hi.items i.lo.items gear
           counted m.columns m.highs m.lows,
-      gear.desk_is,
+      gear.workspace_is,
     )
 
 pub returns-clause-fits : goal.returns-clause-fits

@@ -11,7 +11,7 @@ invariant_of-self g c =
     let low_has = rw (← c.self.view_is) at c.requires.low_has in (
       IsTruthMachine-still (g.T.Truths.columns truths) (g.T.Truths.has truths) (g.T.Truths.holds truths) c.args.gear c.args.hi.items c.args.lo.items gear
           columns high_has low_has,
-      gear.desk_is,
+      gear.workspace_is,
     )
 
 pub returns : goal.returns

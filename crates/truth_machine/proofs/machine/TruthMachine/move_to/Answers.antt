@@ -20,11 +20,11 @@ invariant_of-self g c =
     let are : AreColumns columns holds hi lo =
     AreColumns-has columns holds hi lo c.requires.lows (λ column inside. (column_of g.T.Truths.holds c.args.self.now column, c.requires.same column inside)) in
     let long : length hi ≡ length i.hi.items = c.requires.highs ∙ ap (λ (d : TruthData _ _). length d.hi) (sym c.self.view_is) in
-    let fits = subst (λ list. HasRoomFor list (rooms c.in_ok-desk.desk)) c.deref.ensures.value c.in_ok-desk.ensures.room in (
+    let fits = subst (λ list. HasRoomFor list (rooms c.in_ok-workspace.workspace)) c.deref.ensures.value c.in_ok-workspace.ensures.room in (
       IsTruthMachine-moved (g.T.Truths.columns i.truths) (g.T.Truths.has i.truths) (g.T.Truths.holds i.truths) columns has holds i.parts.items i.agenda
-          i.readers.items i.owners.items i.hi.items i.lo.items hi lo (rooms i.desk) (rooms c.in_ok-desk.desk) long fits are c.requires.high_has c.requires.low_has
+          i.readers.items i.owners.items i.hi.items i.lo.items hi lo (rooms i.workspace) (rooms c.in_ok-workspace.workspace) long fits are c.requires.high_has c.requires.low_has
           c.self.invariant.0,
-      c.in_ok-desk.ensures.desk,
+      c.in_ok-workspace.ensures.workspace,
     )
 
 pub returns-clause-states : goal.returns-clause-states

@@ -19,14 +19,14 @@ invariant_of-result g c =
     let lo = c.args.lo.now in
     let lists = c.in_ok-readers.readers.items in
     let owners = c.in_ok-owners.owners.items in
-    let room = rooms c.in_ok-desk.desk in
+    let room = rooms c.in_ok-workspace.workspace in
     let count : c.len.result ≡ length parts = omega (arith, c.len.ensures, c.args.parts.ok.0) in
     let marks : c.in_ok-agenda.agenda ≡ replicate (length parts) true = c.in_ok-agenda.ensures ∙ ap (λ n. replicate n true) count in
     let read = subst (λ list. AreLists false list (length hi) lists) c.deref.ensures.value c.in_ok-readers.ensures in
     let own = subst (λ list. AreLists true list (length hi) owners) c.deref-2.ensures.value c.in_ok-owners.ensures in
-    let fits = subst (λ list. HasRoomFor list room) c.deref-3.ensures.value c.in_ok-desk.ensures.room in (
+    let fits = subst (λ list. HasRoomFor list room) c.deref-3.ensures.value c.in_ok-workspace.ensures.room in (
       rw (marks, c.in_ok-highs.ensures.items, c.in_ok-lows.ensures.items)
           (IsTruthMachine-made (g.T.Truths.columns truths) (g.T.Truths.has truths) (g.T.Truths.holds truths) parts lists owners hi lo room c.requires.seated fits
           c.requires.apart c.requires.fresh read own c.requires.columns c.requires.high_has c.requires.low_has),
-      c.in_ok-desk.ensures.desk,
+      c.in_ok-workspace.ensures.workspace,
     )

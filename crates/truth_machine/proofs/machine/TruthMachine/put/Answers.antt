@@ -47,7 +47,8 @@ invariant_of-self g c =
           ((rw maker at c.requires.states) column within) (m.columns.each column within);
     } in (
       IsTruthMachine-again columns has holds columns has holds i.parts.items i.agenda c.mark_all-2.new.agenda i.readers.items i.owners.items i.hi.items i.lo.items hi lo
-          (rooms i.desk) (rooms i.desk) (c.mark_all-2.ensures.count ∙ c.mark_all.ensures.count) (length-set i.hi.items node c.args.hi) refl are
+          (rooms i.workspace) (rooms i.workspace) (c.mark_all-2.ensures.count ∙ c.mark_all.ensures.count)
+          (length-set i.hi.items node c.args.hi) refl are
           (All-set has i.hi.items node c.args.hi (rw maker at c.requires.high_has) m.highs) (All-set has i.lo.items node c.args.lo (rw maker at c.requires.low_has) m.lows) m,
       c.self.invariant.1,
     )

@@ -7,7 +7,7 @@ invariant_of-result g c =
     let truths = c.args.truths in (
       IsTruthMachine-still (g.T.Truths.columns truths) (g.T.Truths.has truths) (g.T.Truths.holds truths) c.args.gear c.args.hi.items c.args.lo.items c.requires.gear
           c.requires.columns c.requires.high_has c.requires.low_has,
-      c.requires.gear.desk_is,
+      c.requires.gear.workspace_is,
     )
 
 pub returns : goal.returns

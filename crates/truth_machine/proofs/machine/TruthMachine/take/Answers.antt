@@ -14,7 +14,7 @@ pub advance-requires : goal.advance-requires
 advance-requires g c =
     let m = c.self.invariant.0 in
     rw (c.deref.ensures.value, c.deref-2.ensures.value, c.deref_mut.ensures.value, c.deref_mut-2.ensures.value)
-    (record { rails = m.columns.counted; highs = m.highs; lows = m.lows; runnable = m.runs; desk = c.self.invariant.1 })
+    (record { rails = m.columns.counted; highs = m.highs; lows = m.lows; runnable = m.runs; workspace = c.self.invariant.1 })
 
 pub invariant_of-self : goal.invariant_of-self
 invariant_of-self g c =
@@ -34,7 +34,7 @@ invariant_of-self g c =
     let long : length c.advance.new.hi ≡ length i.hi.items = c.advance.auto.hi ∙ ap length c.deref_mut.ensures.value in
     let again = IsTruthMachine-again _ _ _ (g.T.Truths.columns T) (g.T.Truths.has T) (g.T.Truths.holds T) i.parts.items i.agenda c.advance.new.agenda _ _ _ _ _ _ _ _ all.marks
     long c.advance.ensures.rooms all.are c.advance.ensures.highs c.advance.ensures.lows m in
-    (rw (highs, lows) again, c.advance.ensures.desk)
+    (rw (highs, lows) again, c.advance.ensures.workspace)
 
 pub returns-clause-steps : goal.returns-clause-steps
 returns-clause-steps g c =

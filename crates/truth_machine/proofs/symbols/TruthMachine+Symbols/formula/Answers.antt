@@ -4,7 +4,7 @@ use Rattle.decision_graph.specs.declared.vertex.Function.{Function}
 use Rattle.formula_functions.specs.Tables.{AreInside}
 use Rattle.truth_makers.specs.declared.symbols.Symbols.{Symbols}
 use Rattle.truth_machine.specs.Machines.{TruthData}
-use Rattle.truth_machine.proofs.MakerLemmas.{IsDesk-made, IsTruthMachine-made_more, makes_more}
+use Rattle.truth_machine.proofs.MakerLemmas.{IsWorkspace-made, IsTruthMachine-made_more, makes_more}
 use Rattle.truth_machine.proofs.symbols.TruthMachine+Symbols.formula.Goals as goal
 
 pub function_of-requires : goal.function_of-requires
@@ -18,7 +18,7 @@ invariant_of-self c =
     let made = c.function_of.ensures in (
       IsTruthMachine-made_more i.truths.graph c.function_of.new.graph made.shape made.extends i.parts.items i.agenda i.hi.items i.lo.items m.columns m.highs m.lows
           i.readers.items i.owners.items _ m,
-      IsDesk-made i.truths.graph c.function_of.new.graph made.shape made.extends i.desk c.self.invariant.1,
+      IsWorkspace-made i.truths.graph c.function_of.new.graph made.shape made.extends i.workspace c.self.invariant.1,
     )
 
 pub returns-clause-makes : goal.returns-clause-makes

@@ -3,7 +3,7 @@ use Rattle.std.proofs.Common.{◌<◌, sym, subst}
 use Rattle.decision_graph.specs.declared.vertex.Function.{Function}
 use Rattle.truth_makers.specs.declared.symbols.Symbols.{Symbols}
 use Rattle.truth_machine.specs.Machines.{TruthData}
-use Rattle.truth_machine.proofs.MakerLemmas.{IsDesk-made, IsTruthMachine-made_more, makes_more}
+use Rattle.truth_machine.proofs.MakerLemmas.{IsWorkspace-made, IsTruthMachine-made_more, makes_more}
 use Rattle.truth_machine.proofs.symbols.TruthMachine+Symbols.variable.Goals as goal
 
 pub variable-requires : goal.variable-requires
@@ -16,7 +16,7 @@ invariant_of-self c =
     let made = c.variable.ensures in (
       IsTruthMachine-made_more i.truths.graph c.variable.new.self made.shape made.extends i.parts.items i.agenda i.hi.items i.lo.items m.columns m.highs m.lows
           i.readers.items i.owners.items _ m,
-      IsDesk-made i.truths.graph c.variable.new.self made.shape made.extends i.desk c.self.invariant.1,
+      IsWorkspace-made i.truths.graph c.variable.new.self made.shape made.extends i.workspace c.self.invariant.1,
     )
 
 pub returns-clause-makes : goal.returns-clause-makes

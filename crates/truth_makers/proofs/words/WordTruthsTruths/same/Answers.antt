@@ -7,5 +7,5 @@ pub returns : goal.returns
 returns c =
     let used = c.used.ensures in (
       λ yes column inside. c.agree.ensures.0 yes column (omega (arith, inside, used.few)) (used.used column ∙ lt-ltb column c.args.self.now inside),
-      λ alike. c.agree.ensures.1 (λ lane few is. alike lane (ltb-true lane c.args.self.now (sym (used.used lane) ∙ is))),
+      λ alike. c.agree.ensures.1 (λ column few is. alike column (ltb-true column c.args.self.now (sym (used.used column) ∙ is))),
     )

@@ -2,7 +2,7 @@
 use Rattle.std.proofs.Common.{ℕ, ◌<◌, [], length, map, All, get_or, ap, ◌∙◌}
 use Rattle.std.specs.Prelude.{◌↔◌, Contains, slice_index_or}
 use Rattle.std.proofs.lemmas.List.Elements.{All-contains, Contains-get_or}
-use Rattle.machine_parts.specs.declared.part.HeldPart.{HeldPart}
+use Rattle.machine_parts.specs.declared.part.MachinePart.{MachinePart}
 use Rattle.machine_laws.specs.Finishing.{first_node}
 use Rattle.wide_groups.specs.Staying.{HoldsNode}
 use Rattle.unit_step.specs.Holding.{GoesOn}
@@ -32,7 +32,7 @@ holds_all-requires c =
     let parts = c.args.self.now.parts.items in
     rw (c.deref.ensures.value, c.deref-2.ensures.value) (record {
       these = of_these at (λ k. k < length parts) (λ k goes. goes.stale.stands.inside);
-      some = of_these at (λ k. 0 < length (slice_index_or (map (λ (part : HeldPart). part.map.items) parts) k []))
+      some = of_these at (λ k. 0 < length (slice_index_or (map (λ (part : MachinePart). part.map.items) parts) k []))
           (λ k goes. some_nodes parts _ c.requires.there k goes.stale);
     })
 

@@ -5,7 +5,7 @@ use Rattle.std.specs.List.{AllZip}
 use Rattle.std.specs.Vec.{with_items}
 use Rattle.std.proofs.lemmas.List.{length-map, with_items_is}
 use Rattle.std.proofs.lemmas.Slice.Zip.{AllZip-long}
-use Rattle.path_meaning.specs.Graphs.{nodes}
+use Rattle.switch_paths.specs.Graphs.{nodes}
 use Rattle.group_meaning.specs.Groups.{id_of}
 use Rattle.channel_groups.specs.declared.group.GroupId.{GroupId}
 use Rattle.channel_groups.specs.Grouping.{IsId}
@@ -20,7 +20,7 @@ use Rattle.kept_parts.proofs.GroupParts.{parts_of_groups}
 use Rattle.machine_parts.specs.Making.{held, IsFormed}
 use Rattle.machine_parts.specs.Parts.{AreApart}
 use Rattle.part_steps.specs.Dense.{HaveCodes}
-use Rattle.machine_parts.specs.declared.part.HeldPart.{HeldPart}
+use Rattle.machine_parts.specs.declared.part.MachinePart.{MachinePart}
 use Rattle.machine_laws.specs.Fitting.{AreUntold}
 use Rattle.machine_laws.specs.Finishing.{Loosens}
 use Rattle.machine_laws.specs.Holding.{IsReady}
@@ -50,9 +50,9 @@ of_groups c =
     parts_of_groups c.args.graph.now (with_text c.args.plan.groups.groups) texts _ c.in_ok-parts.parts.items refl c.requires.plan.1.maps
     (c.in_ok-parts.ensures.made texts c.requires.plan.1.texts)
 
-pub held_parts-requires : goal.held_parts-requires
-held_parts-requires c =
-    let of = of_groups (goal.at.held_parts-requires c).In_ok-parts in
+pub parts_with_reads-requires : goal.parts_with_reads-requires
+parts_with_reads-requires c =
+    let of = of_groups (goal.at.parts_with_reads-requires c).In_ok-parts in
     AllZip-long (λ group list. AreReads c.args.graph.now group list.items) (with_text c.args.plan.groups.groups) c.args.plan.reads.items c.requires.plan.1.reads
     ∙ sym (AllZip-long (IsPartOf c.args.graph.now) (with_text c.args.plan.groups.groups) c.in_ok-parts.parts.items of)
 
@@ -76,7 +76,7 @@ stale_of c =
     (ap (λ (ids : List GroupId). chosen c.args.plan.groups.groups ids) c.deref.ensures.value ∙ c.requires.plan.1.untold) c.in_ok-add_stale.ensures.adds.are
 
 -- those in front are the parts of the others, of which some have no code any more
-fronts : In_ok-add_stale → List HeldPart
+fronts : In_ok-add_stale → List MachinePart
 fronts c = (with_items c.in_ok-held.held c.loosen_new.new.parts).items
 
 fronts_are : (c : In_ok-add_stale) → fronts c ≡ c.loosen_new.new.parts
@@ -127,10 +127,11 @@ of_parts-requires c =
     record {
       formed = subst (λ n. All (IsFormed n) c.add_stale.new.parts.items) counted
           (subst (All (IsFormed (nodes g))) back (formed_planned large g wired plan is_plan parts of behind stale front loosens));
-      some = subst (All (λ (part : HeldPart). 0 < part.members)) back (some_planned large g wired plan is_plan parts of behind stale front loosens);
+      some = subst (All (λ (part : MachinePart). 0 < part.members)) back
+          (some_planned large g wired plan is_plan parts of behind stale front loosens);
       apart = subst AreApart back (apart_planned large g wired plan is_plan parts of behind stale front loosens);
-      reads = subst (λ n. All (λ (part : HeldPart). All (λ node. node < n) part.reads.items) c.add_stale.new.parts.items) counted
-          (subst (All (λ (part : HeldPart). All (λ node. node < nodes g) part.reads.items)) back
+      reads = subst (λ n. All (λ (part : MachinePart). All (λ node. node < n) part.reads.items) c.add_stale.new.parts.items) counted
+          (subst (All (λ (part : MachinePart). All (λ node. node < nodes g) part.reads.items)) back
           (reads_planned large g wired plan is_plan parts of behind stale front loosens));
       numbered = ap length (numbers_are added) ∙ (numbered_planned large g wired plan is_plan parts of behind stale front loosens ∙ ap length back);
       coded = subst (HaveCodes c.add_stale.new.uses.numbers) back

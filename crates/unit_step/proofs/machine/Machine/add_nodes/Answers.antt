@@ -3,10 +3,10 @@ use Rattle.std.proofs.Common.{◌≡◌, ◌+◌, ◌-◌, ◌≤◌, ◌++◌, 
 use Rattle.std.specs.Prelude.{IfSome, replicate, slice_index_or, vec_capacity}
 use Rattle.std.proofs.lemmas.List.{length-append, length-replicate}
 use Rattle.ternary.specs.declared.tern.Tern.TheVariants.{Unk}
-use Rattle.part_steps.specs.Desks.{rooms}
+use Rattle.part_steps.specs.Workspaces.{rooms}
 use Rattle.machine_parts.proofs.EditingLemmas.{none_more, IsMachine-grown}
-use Rattle.unit_step.proofs.LastingEdits.{AreLasting-same, AreLasting-grown, texts_numbered-grown}
-use Rattle.path_meaning.specs.Graphs.{nodes as nodes_of}
+use Rattle.unit_step.proofs.LastTextsEdits.{AreLastTexts-same, AreLastTexts-grown, texts_numbered-grown}
+use Rattle.switch_paths.specs.Graphs.{nodes as nodes_of}
 use Rattle.wide_groups.specs.Moving.{graph_in}
 use Rattle.wide_groups.specs.Awake.{HoldsWide}
 use Rattle.wide_groups.specs.Staying.{GrowsIn}
@@ -37,7 +37,7 @@ invariant_of-self-in_err-reserve-2 c =
     rw c.reserve.ensures.items (
       c.self.invariant.0,
       c.self.invariant.1,
-      AreLasting-same i.body.parts.items i.body.uses.numbers (length i.body.state.items) (length i.body.uses.known) i.body.lasting c.self.invariant.2 i.body.uses.numbers _
+      AreLastTexts-same i.body.parts.items i.body.uses.numbers (length i.body.state.items) (length i.body.uses.known) i.body.last_texts c.self.invariant.2 i.body.uses.numbers _
           (λ k. refl) c.reserve-2.ensures.items refl,
       none_holds _ _ _ _ c.replace-known.ensures.after,
     )
@@ -48,7 +48,7 @@ invariant_of-self-in_err-grow c =
     rw (c.reserve.ensures.items, c.in_err-grow.ensures.err) (
       c.self.invariant.0,
       c.self.invariant.1,
-      AreLasting-same i.body.parts.items i.body.uses.numbers (length i.body.state.items) (length i.body.uses.known) i.body.lasting c.self.invariant.2 i.body.uses.numbers _
+      AreLastTexts-same i.body.parts.items i.body.uses.numbers (length i.body.state.items) (length i.body.uses.known) i.body.last_texts c.self.invariant.2 i.body.uses.numbers _
           (λ k. refl) c.reserve-2.ensures.items refl,
       none_holds _ _ _ _ c.replace-known.ensures.after,
     )
@@ -69,11 +69,11 @@ invariant_of-self-2 c =
     let owners_count : length c.grow_by.new.all.items ≡ length c.grow-2.new.state.items =
     ap length owners_are ∙ (length-append i.body.owners.items (replicate (nodes - count) None)
     ∙ omega (arith, length-replicate {A = Option ℕ} (nodes - count) None, own, states)) in
-    let lasting_are : c.grow_by-2.new.all.items ≡ i.body.lasting.numbers.items ++ replicate (nodes - count) None =
+    let last_texts_are : c.grow_by-2.new.all.items ≡ i.body.last_texts.numbers.items ++ replicate (nodes - count) None =
     c.grow_by-2.ensures.items ∙ ap (λ (list : List (Option ℕ)). list ++ replicate (nodes - length list) None) c.reserve-2.ensures.items
-    ∙ ap (λ n. i.body.lasting.numbers.items ++ replicate (nodes - n) None) c.self.invariant.2.counted in
-    let lasting_count : length c.grow_by-2.new.all.items ≡ length c.grow-2.new.state.items =
-    ap length lasting_are ∙ (length-append i.body.lasting.numbers.items (replicate (nodes - count) None)
+    ∙ ap (λ n. i.body.last_texts.numbers.items ++ replicate (nodes - n) None) c.self.invariant.2.counted in
+    let last_texts_count : length c.grow_by-2.new.all.items ≡ length c.grow-2.new.state.items =
+    ap length last_texts_are ∙ (length-append i.body.last_texts.numbers.items (replicate (nodes - count) None)
     ∙ omega (arith, length-replicate {A = Option ℕ} (nodes - count) None, c.self.invariant.2.counted, states)) in
     let few : count ≤ nodes = omega (arith, c.requires.more, ap (λ (m : MachineData). length m.state) c.self.view_is) in
     let all_nodes : length (i.body.state.items ++ replicate (nodes - count) Unk) ≡ nodes =
@@ -81,13 +81,13 @@ invariant_of-self-2 c =
     let lists_count : length c.grow.new.self ≡ length c.grow-2.new.state.items =
     omega (arith, c.in_ok-grow.ensures.count, read, states) in (
       IsMachine-grown i.body.parts.items i.body.agenda.marks i.body.agenda.waiting count (length c.grow-2.new.state.items) i.body.readers c.grow.new.self
-          i.body.owners.items c.grow_by.new.all.items i.body.uses.numbers i.body.held i.body.most (rooms i.body.desk) c.self.invariant.0 (omega (arith, states)) lists_count
+          i.body.owners.items c.grow_by.new.all.items i.body.uses.numbers i.body.held i.body.most (rooms i.body.workspace) c.self.invariant.0 (omega (arith, states)) lists_count
           c.grow.ensures.same owners_count
           (λ node. ap (λ list. slice_index_or list node None) owners_are ∙ none_more i.body.owners.items (nodes - count) node),
       c.self.invariant.1,
-      AreLasting-grown i.body.parts.items i.body.uses.numbers count (length i.body.uses.known) i.body.lasting c.self.invariant.2 (length c.grow-2.new.state.items) _
-          (omega (arith, states)) lasting_count
-          (λ node. ap (λ list. slice_index_or list node None) lasting_are ∙ none_more i.body.lasting.numbers.items (nodes - count) node) refl,
+      AreLastTexts-grown i.body.parts.items i.body.uses.numbers count (length i.body.uses.known) i.body.last_texts c.self.invariant.2 (length c.grow-2.new.state.items) _
+          (omega (arith, states)) last_texts_count
+          (λ node. ap (λ list. slice_index_or list node None) last_texts_are ∙ none_more i.body.last_texts.numbers.items (nodes - count) node) refl,
       subst (λ state. HoldsWide i.body.parts.items state (vec_capacity c.widened.new.noted) c.in_ok-wide.wide) (sym c.grow-2.ensures.state)
           (holds_grown i.body.parts.items i.body.state.items (replicate (nodes - count) Unk) nodes (vec_capacity i.body.noted) (vec_capacity c.widened.new.noted)
           i.body.wide c.in_ok-wide.wide (subst (λ wide. GrowsIn nodes wide c.in_ok-wide.wide) c.replace-known.ensures.value c.in_ok-wide.ensures.grows)
@@ -100,10 +100,15 @@ returns-clause-ok c =
     let i = c.self.inside in
     let nodes = c.args.nodes in
     let count = length i.body.state.items in
-    let lasting_are : c.grow_by-2.new.all.items ≡ i.body.lasting.numbers.items ++ replicate (nodes - length i.body.lasting.numbers.items) None =
+    let last_texts_are : c.grow_by-2.new.all.items ≡ i.body.last_texts.numbers.items
+    ++ replicate (nodes - length i.body.last_texts.numbers.items) None =
     c.grow_by-2.ensures.items ∙ ap (λ (list : List (Option ℕ)). list ++ replicate (nodes - length list) None) c.reserve-2.ensures.items in
     rw (← c.self.view_is, c.grow-2.ensures.state)
-    (rw (lasting_are, texts_numbered-grown i.body.uses.known i.body.lasting.numbers.items (nodes - length i.body.lasting.numbers.items)) refl)
+    (rw (
+      last_texts_are,
+      texts_numbered-grown i.body.uses.known i.body.last_texts.numbers.items
+          (nodes - length i.body.last_texts.numbers.items),
+    ) refl)
 
 pub returns-clause-wide : goal.returns-clause-wide
 returns-clause-wide c =

@@ -7,7 +7,7 @@ use Rattle.smallvec.specs.SmallVec.{SmallVec}
 use Rattle.machine_parts.specs.Evaluating.{IsSeated}
 use Rattle.machine_parts.specs.Readers.{readers_of}
 use Rattle.machine_laws.specs.Machines.{MachineData}
-use Rattle.part_steps.specs.Desks.{rooms}
+use Rattle.part_steps.specs.Workspaces.{rooms}
 use Rattle.unit_step.proofs.machine.Machine.agrees_at.Goals as goal
 
 pub agrees_in-requires : goal.agrees_in-requires
@@ -18,10 +18,10 @@ agrees_in-requires c =
     rw (c.deref.ensures.value, c.deref-2.ensures.value) (record {
       part = subst (λ (m : MachineData). c.args.k < length m.parts) (sym c.self.view_is) c.requires.part;
       seated = λ part stands.
-          (subst (IsSeated (length i.body.state.items) (rooms i.body.desk)) stands.here (runs.seated c.args.k part stands.inside)).members;
+          (subst (IsSeated (length i.body.state.items) (rooms i.body.workspace)) stands.here (runs.seated c.args.k part stands.inside)).members;
       inside = λ node concerns. elim concerns [
         | inl has ↦
-            let seat = subst (IsSeated (length i.body.state.items) (rooms i.body.desk)) has.stands.here (runs.seated c.args.k has.part has.stands.inside) in
+            let seat = subst (IsSeated (length i.body.state.items) (rooms i.body.workspace)) has.stands.here (runs.seated c.args.k has.part has.stands.inside) in
             subst (λ n. n < length i.body.state.items) has.member.here (seat.below has.place 0 has.member.within)
         | inr reads ↦
             let there = runs.readers node c.args.k reads in

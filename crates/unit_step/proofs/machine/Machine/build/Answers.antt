@@ -3,8 +3,8 @@ use Rattle.std.proofs.Common.{◌≡◌, inl, [], length, List, All, Option, Non
 use Rattle.std.proofs.lemmas.Option.{slice_get_within, get_or_from_slice_get}
 use Rattle.std.proofs.lemmas.Result.{err_from_is_err_and}
 use Rattle.ternary.specs.declared.tern.Tern.{Tern}
-use Rattle.path_meaning.specs.Graphs.{GraphData, nodes}
-use Rattle.path_meaning.specs.Rails.{IsSound}
+use Rattle.switch_paths.specs.Graphs.{GraphData, nodes}
+use Rattle.switch_paths.specs.Rails.{IsSound}
 use Rattle.group_meaning.proofs.UniqueGroups.{unique}
 use Rattle.circuit_texts.specs.Sizes.{NoneRefused, refused_in}
 use Rattle.group_text.specs.FirstTexts.{new_texts}

@@ -1,6 +1,6 @@
 -- Nothing but the count of moves changes, and which graphs a machine fits isn't told by that.
 use Rattle.std.proofs.Common.{ℕ, refl, rules}
-use Rattle.path_meaning.specs.Graphs.{GraphData}
+use Rattle.switch_paths.specs.Graphs.{GraphData}
 use Rattle.machine_laws.specs.Machines.{MachineData}
 use Rattle.machine_laws.specs.Fitting.{FitsGraph}
 use Rattle.unit_step.specs.contracts.machine.Machine.{the_view}

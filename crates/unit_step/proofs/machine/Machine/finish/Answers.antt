@@ -7,7 +7,7 @@ use Rattle.analysis_cache.specs.Keeping.{texts_of}
 use Rattle.circuit_texts.specs.Building.{Builds}
 use Rattle.machine_laws.specs.Editing.{StaysKnown}
 use Rattle.machine_laws.proofs.FillingLemmas.{on_err}
-use Rattle.unit_step.specs.Lasting.{IsLeft}
+use Rattle.unit_step.specs.LastTexts.{IsLeft}
 use Rattle.unit_step.proofs.HoldingLemmas.{StaysKnown-last}
 use Rattle.unit_step.proofs.FinishingOrder.{IsCutOff-used, last_filled, used_filled, Builds-left, HasLast-settled, Finishes-settled}
 use Rattle.unit_step.proofs.machine.Machine.finish.Goals as goal
@@ -19,11 +19,11 @@ returns-in_err-fresh-clause-cut_off g c = λ is.
     (g.A.Analyst.analysed c.args.analyst.now) (g.A.Analyst.analysed c.wake.new.analyst) (c.in_err-fresh.ensures.cut_off (cc (p.1, p.2, is)))
 
 pub settle_last-requires-clause-textless : goal.settle_last-requires-clause-textless
-settle_last-requires-clause-textless g c = λ k part stands none. c.in_ok-fresh.ensures.rouses.fits.covers.textless k part stands none
+settle_last-requires-clause-textless g c = λ k part stands none. c.in_ok-fresh.ensures.makes_ready.fits.covers.textless k part stands none
 
 pub settle_last-requires-clause-last : goal.settle_last-requires-clause-last
 settle_last-requires-clause-last g c =
-    subst (All (λ text. is_among (texts_of c.wake.new.kept) text ≡ true)) (sym c.in_ok-fresh.ensures.rouses.last)
+    subst (All (λ text. is_among (texts_of c.wake.new.kept) text ≡ true)) (sym c.in_ok-fresh.ensures.makes_ready.last)
     (last_filled c.args.large c.args.graph.now c.args.self.now.last (texts_of c.args.kept.now) c.requires.last (texts_of c.wake.new.kept)
     (g.A.Analyst.analysed c.args.analyst.now) (g.A.Analyst.analysed c.wake.new.analyst) c.in_ok-fresh.fresh c.in_ok-fresh.ensures.fills)
 
@@ -31,11 +31,12 @@ pub settle_last-requires-clause-used : goal.settle_last-requires-clause-used
 settle_last-requires-clause-used g c =
     used_filled c.args.large c.args.graph.now c.args.self.now.last (texts_of c.args.kept.now) c.requires.last (texts_of c.wake.new.kept)
     (g.A.Analyst.analysed c.args.analyst.now) (g.A.Analyst.analysed c.wake.new.analyst) c.in_ok-fresh.fresh c.in_ok-fresh.ensures.fills
-    c.wake.new.self c.in_ok-fresh.ensures.rouses.fits
+    c.wake.new.self c.in_ok-fresh.ensures.makes_ready.fits
 
 pub returns-clause-finishes : goal.returns-clause-finishes
 returns-clause-finishes g c =
-    Finishes-settled c.args.graph.now c.args.self.now c.wake.new.self c.settle_last.new.self c.in_ok-fresh.ensures.rouses c.settle_last.ensures.same
+    Finishes-settled c.args.graph.now c.args.self.now c.wake.new.self c.settle_last.new.self c.in_ok-fresh.ensures.makes_ready
+    c.settle_last.ensures.same
     c.settle_last.ensures.order
 
 pub returns-clause-builds : goal.returns-clause-builds
@@ -43,11 +44,11 @@ returns-clause-builds g c =
     let before = g.A.Analyst.analysed c.args.analyst.now in
     let last = c.settle_last.new.self.last in
     let now = texts_of c.settle_last.new.kept in
-    let rouses = c.in_ok-fresh.ensures.rouses in
-    let has = HasLast-settled c.args.graph.now c.args.self.now c.wake.new.self c.settle_last.new.self rouses c.settle_last.ensures.same c.settle_last.ensures.order in
+    let makes_ready = c.in_ok-fresh.ensures.makes_ready in
+    let has = HasLast-settled c.args.graph.now c.args.self.now c.wake.new.self c.settle_last.new.self makes_ready c.settle_last.ensures.same c.settle_last.ensures.order in
     let left : IsLeft c.args.kept.now.bound c.args.self.now.last (texts_of c.wake.new.kept) last now =
     subst (λ bound. IsLeft bound c.args.self.now.last (texts_of c.wake.new.kept) last now) c.in_ok-fresh.ensures.bound
-    (subst (λ was. IsLeft c.wake.new.kept.bound was (texts_of c.wake.new.kept) last now) rouses.last c.settle_last.ensures.left) in
+    (subst (λ was. IsLeft c.wake.new.kept.bound was (texts_of c.wake.new.kept) last now) makes_ready.last c.settle_last.ensures.left) in
     let builds = Builds-left c.args.large c.args.graph.now c.args.self.now.last (texts_of c.args.kept.now) c.requires.last (texts_of c.wake.new.kept) before
     (g.A.Analyst.analysed c.wake.new.analyst) c.in_ok-fresh.fresh c.in_ok-fresh.ensures.fills c.args.kept.now.bound last now has left in
     subst (λ told. Builds c.args.large c.args.graph.now c.args.kept.now.bound (used_texts c.args.self.now.last (texts_of c.args.kept.now)) (used_texts last now) before told c.in_ok-fresh.fresh)

@@ -1,7 +1,7 @@
 -- The machine with its new nodes loses the parts that have the changed nodes, and gets new stale ones.
 use Rattle.std.proofs.Common.{◌≡◌, ◌++◌, ◌+◌, ◌*◌, ◌≤◌, ℕ, List, Option, Some, None, length, sym, ap, subst, ◌∙◌, arith}
 use Rattle.std.specs.Prelude.{◌↔◌, Contains}
-use Rattle.path_meaning.specs.Graphs.{nodes}
+use Rattle.switch_paths.specs.Graphs.{nodes}
 use Rattle.channel_groups.specs.Changes.{undo, nodes_before, nodes_after, touched_size}
 use Rattle.group_meaning.specs.Groups.{Group, AreGroups}
 use Rattle.channel_groups.specs.Grouping.{GroupsData}

@@ -1,7 +1,7 @@
 -- The node has the state already, or is placed.
 use Rattle.std.proofs.Common.{◌≡◌, ◌<◌, length, sym, subst}
 use Rattle.std.proofs.lemmas.Bool.{OnTrue_at}
-use Rattle.path_meaning.specs.Switching.{state_at}
+use Rattle.switch_paths.specs.Switching.{state_at}
 use Rattle.unit_step.proofs.RestartingLemmas.{GivesNode-same, GivesNode-placed}
 use Rattle.unit_step.proofs.machine.Machine.give.Goals as goal
 

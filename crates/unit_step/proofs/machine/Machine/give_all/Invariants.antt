@@ -1,6 +1,6 @@
 -- The nodes so far have their states.
 use Rattle.std.proofs.Common.{◌≤◌}
-use Rattle.path_meaning.specs.declared.TheConstants.{RAILS}
+use Rattle.switch_paths.specs.declared.TheConstants.{RAILS}
 use Rattle.unit_step.specs.Restarting.{GivesBelow}
 use Rattle.unit_step.proofs.machine.Machine.give_all.Given as goal
 

@@ -1,7 +1,7 @@
 -- Each part has a mark.
 use Rattle.std.proofs.Common.{◌≡◌, length, refl, subst, arith}
 use Rattle.machine_parts.proofs.MachineLemmas.{IsMachine-again}
-use Rattle.part_steps.specs.Desks.{rooms}
+use Rattle.part_steps.specs.Workspaces.{rooms}
 use Rattle.unit_step.specs.Restarting.{MarksBelow}
 use Rattle.unit_step.proofs.machine.Machine.mark_all_parts.Goals as goal
 
@@ -13,7 +13,8 @@ invariant_of-self c =
     let i = c.self.inside in (
       IsMachine-again i.body.parts.items i.body.agenda.marks c.mark_below.new.agenda.marks i.body.agenda.waiting c.mark_below.new.agenda.waiting
           (length i.body.state.items) (length i.body.state.items) i.body.readers i.body.owners.items i.body.uses.numbers i.body.held i.body.most
-          (rooms i.body.desk) (rooms i.body.desk) c.mark_below.ensures.marks.count c.mark_below.ensures.waiting refl refl c.self.invariant.0,
+          (rooms i.body.workspace) (rooms i.body.workspace) c.mark_below.ensures.marks.count c.mark_below.ensures.waiting refl
+          refl c.self.invariant.0,
       c.self.invariant.1,
       c.self.invariant.2,
       c.self.invariant.3,

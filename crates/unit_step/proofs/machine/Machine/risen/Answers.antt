@@ -4,16 +4,16 @@ use Rattle.std.specs.Vec.{with_items}
 use Rattle.std.proofs.lemmas.List.{length-map, with_items_is}
 use Rattle.group_text.specs.Texts.{text_of_group}
 use Rattle.kept_parts.proofs.GroupParts.{parts_of_groups}
-use Rattle.machine_parts.specs.declared.part.HeldPart.{HeldPart}
+use Rattle.machine_parts.specs.declared.part.MachinePart.{MachinePart}
 use Rattle.machine_laws.specs.Machines.{MachineData}
 use Rattle.machine_laws.specs.Finishing.{Loosens, LoosensHeld}
 use Rattle.unit_step.specs.Waking.{AreMade}
-use Rattle.unit_step.proofs.FinishingRoused.{AreMade-held, AreMade-loosened, parts_counted, has_nodes}
+use Rattle.unit_step.proofs.FinishingReadied.{AreMade-held, AreMade-loosened, parts_counted, has_nodes}
 use Rattle.unit_step.proofs.machine.Machine.risen.Goals.{In_ok-parts}
 use Rattle.unit_step.proofs.machine.Machine.risen.Goals as goal
 
-pub held_parts-requires : goal.held_parts-requires
-held_parts-requires c =
+pub parts_with_reads-requires : goal.parts_with_reads-requires
+parts_with_reads-requires c =
     let g = c.args.graph.now in
     let m = c.args.self.now in
     let waking = c.requires.waking in
@@ -78,7 +78,7 @@ returns c =
     let old = c.in_ok-parts.parts.items in
     let now = c.loosen_waking.new.parts in
     let final = with_items_is c.in_ok-parts.parts now (omega (arith, c.loosen_waking.auto.parts, c.deref_mut.ensures.len)) in
-    let parts : List HeldPart = (with_items c.in_ok-parts.parts now).items in
+    let parts : List MachinePart = (with_items c.in_ok-parts.parts now).items in
     let loosens : Loosens old parts =
     subst (Loosens old) (sym final) (subst (λ list. Loosens list now) c.deref_mut.ensures.value c.loosen_waking.ensures.loosens) in
     let wide = ap (λ (one : MachineData). one.wide) c.self.view_is in

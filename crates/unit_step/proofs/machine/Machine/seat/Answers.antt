@@ -7,14 +7,14 @@ use Rattle.group_text.specs.Texts.{GroupTextData}
 use Rattle.kept_parts.specs.Uses.{UsesData, texts_used}
 use Rattle.kept_parts.proofs.NumberLemmas.{texts_added}
 use Rattle.machine_laws.specs.Machines.{MachineData}
-use Rattle.part_steps.specs.Desks.{rooms}
+use Rattle.part_steps.specs.Workspaces.{rooms}
 use Rattle.machine_parts.specs.Parts.{HasMember}
 use Rattle.machine_parts.specs.Marking.{AgendaData}
 use Rattle.machine_parts.specs.Making.{Owns}
 use Rattle.part_steps.specs.Dense.{AreDense}
-use Rattle.unit_step.specs.Lasting.{texts_lasting}
+use Rattle.unit_step.specs.LastTexts.{texts_of_last}
 use Rattle.machine_laws.proofs.SeatingLemmas.{IsMachine-roomier, IsMachine-seated}
-use Rattle.unit_step.proofs.LastingEdits.{AreLasting-same, AreLasting-seated}
+use Rattle.unit_step.proofs.LastTextsEdits.{AreLastTexts-same, AreLastTexts-seated}
 use Rattle.machine_laws.proofs.HeldParts.{KeepsKnown-seated, holds_kept}
 use Rattle.unit_step.proofs.machine.Machine.seat.Goals as goal
 
@@ -28,7 +28,7 @@ invariant_of-self-in_err-widen_for_parts c =
     let i = c.self.inside in
     let members = c.args.members.now in
     rw c.reserve.ensures.items (
-      (IsMachine-roomier i.body.parts.items i.body.agenda.marks i.body.agenda.waiting (length i.body.state.items) i.body.readers i.body.owners.items i.body.uses.numbers i.body.held i.body.most (rooms i.body.desk) c.self.invariant.0 i.body.uses.numbers (rooms c.widen_for_parts.new.desk) (omega arith)
+      (IsMachine-roomier i.body.parts.items i.body.agenda.marks i.body.agenda.waiting (length i.body.state.items) i.body.readers i.body.owners.items i.body.uses.numbers i.body.held i.body.most (rooms i.body.workspace) c.self.invariant.0 i.body.uses.numbers (rooms c.widen_for_parts.new.workspace) (omega arith)
           c.widen_for_parts.ensures.values c.widen_for_parts.ensures.changes c.widen_for_parts.ensures.parts),
       c.make_room.ensures.same i.body.parts.items c.self.invariant.1,
       c.self.invariant.2,
@@ -41,7 +41,7 @@ invariant_of-self-in_err-add c =
     let members = c.args.members.now in
     let same = ap (λ (uses : UsesData). length uses.numbers) c.in_err-add.ensures.err in
     rw c.reserve.ensures.items (
-      (IsMachine-roomier i.body.parts.items i.body.agenda.marks i.body.agenda.waiting (length i.body.state.items) i.body.readers i.body.owners.items i.body.uses.numbers i.body.held i.body.most (rooms i.body.desk) c.self.invariant.0 c.add.new.self.numbers (rooms c.widen_for_parts.new.desk)
+      (IsMachine-roomier i.body.parts.items i.body.agenda.marks i.body.agenda.waiting (length i.body.state.items) i.body.readers i.body.owners.items i.body.uses.numbers i.body.held i.body.most (rooms i.body.workspace) c.self.invariant.0 c.add.new.self.numbers (rooms c.widen_for_parts.new.workspace)
           (omega (arith, same)) c.widen_for_parts.ensures.values c.widen_for_parts.ensures.changes c.widen_for_parts.ensures.parts),
       c.make_room.ensures.same i.body.parts.items c.self.invariant.1,
       rw (ap (λ (uses : UsesData). length uses.known) c.in_err-add.ensures.err, ap (λ (uses : UsesData). uses.numbers) c.in_err-add.ensures.err)
@@ -55,11 +55,11 @@ invariant_of-self-in_err-wait_more c =
     let members = c.args.members.now in
     let more = ap length c.in_ok-add.ensures.ok in
     rw (c.reserve.ensures.items, c.in_err-wait_more.ensures.err) (
-      (IsMachine-roomier i.body.parts.items i.body.agenda.marks i.body.agenda.waiting (length i.body.state.items) i.body.readers i.body.owners.items i.body.uses.numbers i.body.held i.body.most (rooms i.body.desk) c.self.invariant.0 c.add.new.self.numbers (rooms c.widen_for_parts.new.desk)
+      (IsMachine-roomier i.body.parts.items i.body.agenda.marks i.body.agenda.waiting (length i.body.state.items) i.body.readers i.body.owners.items i.body.uses.numbers i.body.held i.body.most (rooms i.body.workspace) c.self.invariant.0 c.add.new.self.numbers (rooms c.widen_for_parts.new.workspace)
           (omega (arith, more, length_push i.body.uses.numbers None)) c.widen_for_parts.ensures.values c.widen_for_parts.ensures.changes c.widen_for_parts.ensures.parts),
       c.make_room.ensures.same i.body.parts.items c.self.invariant.1,
-      rw c.add.ensures.known (AreLasting-same i.body.parts.items i.body.uses.numbers (length i.body.state.items) (length i.body.uses.known) i.body.lasting c.self.invariant.2
-          c.add.new.self.numbers i.body.lasting (numbers_read i.body.uses c.add.new.self c.in_ok-add.ensures.ok) refl refl),
+      rw c.add.ensures.known (AreLastTexts-same i.body.parts.items i.body.uses.numbers (length i.body.state.items) (length i.body.uses.known) i.body.last_texts c.self.invariant.2
+          c.add.new.self.numbers i.body.last_texts (numbers_read i.body.uses c.add.new.self c.in_ok-add.ensures.ok) refl refl),
       c.self.invariant.3,
     )
 
@@ -68,7 +68,7 @@ invariant_of-self-2 c =
     let i = c.self.inside in
     let members = c.args.members.now in
     let e = c.in_ok-part.part in
-    let room = rooms c.widen_for_parts.new.desk in
+    let room = rooms c.widen_for_parts.new.workspace in
     let most : c.in-Some.most ≡ i.body.most + length members = omega (arith, c.in-Some.ensures) in
     let parts = c.push_reserved.ensures.items ∙ ap (λ xs. xs ++ e ∷ []) c.reserve.ensures.items in
     let count : c.len-2.result ≡ length i.body.parts.items = omega (arith, c.len-2.ensures, c.reserve.ensures.len, i.body.parts.ok.0) in
@@ -81,7 +81,7 @@ invariant_of-self-2 c =
     let waits = ap (λ (agenda : AgendaData). agenda.waiting) c.in_ok-wait_more.ensures.ok in
     let waiting : length i.body.agenda.waiting ≡ length i.body.parts.items = c.wait_more.ensures.counted ∙ c.self.invariant.0.runs.counted in
     let numbers = ap length c.in_ok-add.ensures.ok ∙ length_push i.body.uses.numbers None in
-    let roomier = IsMachine-roomier i.body.parts.items i.body.agenda.marks i.body.agenda.waiting (length i.body.state.items) i.body.readers i.body.owners.items i.body.uses.numbers i.body.held i.body.most (rooms i.body.desk) c.self.invariant.0 i.body.uses.numbers room (omega arith)
+    let roomier = IsMachine-roomier i.body.parts.items i.body.agenda.marks i.body.agenda.waiting (length i.body.state.items) i.body.readers i.body.owners.items i.body.uses.numbers i.body.held i.body.most (rooms i.body.workspace) c.self.invariant.0 i.body.uses.numbers room (omega arith)
     c.widen_for_parts.ensures.values c.widen_for_parts.ensures.changes c.widen_for_parts.ensures.parts in
     let inside : All (λ node. node < length i.body.state.items) members =
     subst (λ n. All (λ node. node < n) members) (ap (λ (m : MachineData). length m.state) (sym c.self.view_is)) c.requires.inside in
@@ -94,7 +94,7 @@ invariant_of-self-2 c =
           room roomier members e c.in_ok-part.ensures c.requires.some inside c.requires.once free c.own.new.owners owns c.add.new.self.numbers numbers
           (omega (arith, most, c.in_ok-widen_for_parts.ensures.more_changes)) (omega (arith, before, c.in_ok-widen_for_parts.ensures.more_parts)) waiting),
       dense,
-      rw c.add.ensures.known (AreLasting-seated i.body.parts.items i.body.uses.numbers (length i.body.state.items) (length i.body.uses.known) i.body.lasting c.self.invariant.2
+      rw c.add.ensures.known (AreLastTexts-seated i.body.parts.items i.body.uses.numbers (length i.body.state.items) (length i.body.uses.known) i.body.last_texts c.self.invariant.2
           e c.add.new.self.numbers (numbers_read i.body.uses c.add.new.self c.in_ok-add.ensures.ok)),
       holds_kept i.body.parts.items (i.body.parts.items ++ e ∷ []) i.body.state.items (vec_capacity i.body.noted) i.body.wide i.body.wide
           (KeepsKnown-seated i.body.parts.items e i.body.wide i.body.wide refl) c.self.invariant.3,
@@ -117,7 +117,7 @@ returns-clause-ok c =
       rest = record {
         groups = refl;
         state = refl;
-        last = ap (λ known. texts_lasting known i.body.lasting) c.add.ensures.known;
+        last = ap (λ known. texts_of_last known i.body.last_texts) c.add.ensures.known;
         moves = refl;
         placed = refl;
         spare = refl;

@@ -10,9 +10,9 @@ use Rattle.machine_laws.specs.Machines.{MachineData, Places}
 use Rattle.wide_groups.specs.Moving.{PlacesIn}
 use Rattle.wide_groups.specs.Awake.{IsListedIn, HoldsWide}
 use Rattle.wide_groups.proofs.WideCases.{listed_in, holds_placed}
-use Rattle.part_steps.specs.Desks.{rooms}
+use Rattle.part_steps.specs.Workspaces.{rooms}
 use Rattle.machine_parts.specs.Readers.{readers_of}
-use Rattle.unit_step.specs.Lasting.{AreLasting}
+use Rattle.unit_step.specs.LastTexts.{AreLastTexts}
 use Rattle.machine_laws.proofs.PlacingLemmas.{placing_keeps_cover, placing_keeps_fit, Places-marked}
 use Rattle.machine_parts.proofs.MachineLemmas.{IsMachine-again, owner_inside, at_owner, at_no_owner}
 use Rattle.unit_step.proofs.machine.Machine.set_node.Goals.{After-index-owner, After-mark_all}
@@ -72,7 +72,7 @@ places c owner_is placed =
     let i = c.self.inside in
     subst (λ (state : List Tern). Places c.args.node c.args.value (the_view i)
     (record (the_view i) { marks = c.mark_all.new.agenda.marks; state = state; placed = placed; wide = c.place.new.wide })) (sym (state_is c))
-    (Places-marked c.args.node c.args.value (the_view i) i.body.agenda.waiting i.body.readers i.body.owners.items i.body.uses.numbers i.body.held i.body.most (rooms i.body.desk)
+    (Places-marked c.args.node c.args.value (the_view i) i.body.agenda.waiting i.body.readers i.body.owners.items i.body.uses.numbers i.body.held i.body.most (rooms i.body.workspace)
     c.self.invariant.0 c.index-owner.result.now owner_is c.mark_owner.new.agenda.marks c.mark_all.new.agenda.marks c.mark_owner.ensures.marks
     c.of.result.now c.of.ensures c.mark_all.ensures.marks placed c.place.new.wide (wide_placed c))
 
@@ -83,11 +83,11 @@ invariant_of-self c =
     let state = state_is at_end in
     let count = ap length state ∙ length-set i.body.state.items c.args.node c.args.value in (
       IsMachine-again i.body.parts.items i.body.agenda.marks c.mark_all.new.agenda.marks i.body.agenda.waiting c.mark_all.new.agenda.waiting
-          (length i.body.state.items) _ i.body.readers i.body.owners.items i.body.uses.numbers i.body.held i.body.most (rooms i.body.desk) (rooms i.body.desk)
+          (length i.body.state.items) _ i.body.readers i.body.owners.items i.body.uses.numbers i.body.held i.body.most (rooms i.body.workspace) (rooms i.body.workspace)
           (c.mark_all.ensures.marks.count ∙ c.mark_owner.ensures.marks.count) (c.mark_all.ensures.waiting ∙ c.mark_owner.ensures.waiting)
           count refl c.self.invariant.0,
       c.self.invariant.1,
-      subst (λ n. AreLasting i.body.parts.items i.body.uses.numbers n (length i.body.uses.known) i.body.lasting) (sym count) c.self.invariant.2,
+      subst (λ n. AreLastTexts i.body.parts.items i.body.uses.numbers n (length i.body.uses.known) i.body.last_texts) (sym count) c.self.invariant.2,
       subst (λ states. HoldsWide i.body.parts.items states (vec_capacity i.body.noted) c.place.new.wide) (sym state)
           (holds_placed c.args.node i.body.parts.items i.body.state.items _ _ i.body.wide c.place.new.wide (wide_placed at_end)
           (length-set i.body.state.items c.args.node c.args.value) c.self.invariant.3),

@@ -5,17 +5,17 @@ use Rattle.std.specs.Prelude.{Option, vec_capacity}
 use Rattle.std.specs.Vec.{with_items}
 use Rattle.std.proofs.lemmas.List.{with_items_is}
 use Rattle.ternary.specs.declared.tern.Tern.{Tern}
-use Rattle.machine_parts.specs.declared.part.HeldPart.{HeldPart}
+use Rattle.machine_parts.specs.declared.part.MachinePart.{MachinePart}
 use Rattle.machine_parts.specs.Marking.{IsMarked, marked_sum, instructions_of}
 use Rattle.machine_parts.proofs.MachineLemmas.{IsMachine-again}
 use Rattle.wide_groups.specs.Moving.{RetouchesIn}
 use Rattle.wide_groups.specs.Awake.{HoldsWide, IsWorked}
-use Rattle.part_steps.specs.Desks.{rooms}
+use Rattle.part_steps.specs.Workspaces.{rooms}
 use Rattle.machine_laws.specs.Machines.{MachineData}
 use Rattle.run_beside.specs.Noticing.{KeepsApart}
 use Rattle.run_beside.specs.Stepping.{MovesBeside, RemarksBeside}
 use Rattle.unit_step.specs.Beside.{KeepsPartsApart}
-use Rattle.unit_step.specs.Lasting.{AreLasting}
+use Rattle.unit_step.specs.LastTexts.{AreLastTexts}
 use Rattle.unit_step.proofs.BesideLemmas.{tables_apart, parts_apart}
 use Rattle.unit_step.proofs.machine.Machine.step_beside.Given.{Over}
 use Rattle.unit_step.proofs.machine.Machine.step_beside.Goals.{After-advance_beside}
@@ -39,7 +39,7 @@ advance_beside-requires g c =
       agreed = c.requires.agreed;
       apart = subst (λ (m : MachineData). length c.args.apart.now.inside ≡ length m.parts) (sym c.self.view_is) c.requires.apart;
       marked = marked;
-      kept = tables_apart i.body.parts.items i.body.agenda.marks i.body.agenda.waiting (length i.body.state.items) i.body.readers (rooms i.body.desk) runs
+      kept = tables_apart i.body.parts.items i.body.agenda.marks i.body.agenda.waiting (length i.body.state.items) i.body.readers (rooms i.body.workspace) runs
           i.body.owners.items c.self.invariant.0.own c.args.apart.now.inside c.args.good.now i.body.state.items kept;
     })
 
@@ -51,16 +51,16 @@ invariant_of-self g c =
     let final = with_items_is i.body.state n (omega (arith, c.advance_beside.auto.bad, c.deref_mut.ensures.len)) in
     let nodes = ap length final ∙ (c.advance_beside.auto.bad ∙ ap length c.deref_mut.ensures.value) in (
       IsMachine-again i.body.parts.items i.body.agenda.marks c.advance_beside.new.agenda.marks i.body.agenda.waiting c.advance_beside.new.agenda.waiting
-          (length i.body.state.items) _ i.body.readers i.body.owners.items i.body.uses.numbers i.body.held i.body.most (rooms i.body.desk)
-          (rooms c.advance_beside.new.desk) step.marks.count step.waiting nodes step.rooms c.self.invariant.0,
+          (length i.body.state.items) _ i.body.readers i.body.owners.items i.body.uses.numbers i.body.held i.body.most (rooms i.body.workspace)
+          (rooms c.advance_beside.new.workspace) step.marks.count step.waiting nodes step.rooms c.self.invariant.0,
       c.self.invariant.1,
-      subst (λ n. AreLasting i.body.parts.items i.body.uses.numbers n (length i.body.uses.known) i.body.lasting) (sym nodes) c.self.invariant.2,
+      subst (λ n. AreLastTexts i.body.parts.items i.body.uses.numbers n (length i.body.uses.known) i.body.last_texts) (sym nodes) c.self.invariant.2,
       subst (λ state. HoldsWide i.body.parts.items state (vec_capacity c.advance_beside.new.noted) c.advance_beside.new.wide) (sym final)
           (subst (λ list. HoldsWide list n (vec_capacity c.advance_beside.new.noted) c.advance_beside.new.wide) c.deref.ensures.value step.holds),
     )
 
 -- what holds of the parts, the states that were handed in and those that came back holds of the machine's
-parts_are : (g : Over) (c : After-advance_beside g) (P : List HeldPart → List (Option ℕ) → List Tern → List Tern → Type 0) →
+parts_are : (g : Over) (c : After-advance_beside g) (P : List MachinePart → List (Option ℕ) → List Tern → List Tern → Type 0) →
     P c.deref.result.now c.deref-2.result.now c.deref_mut.result.now c.advance_beside.new.bad →
     P c.self.inside.body.parts.items c.self.inside.body.owners.items c.self.inside.body.state.items
     (with_items c.self.inside.body.state c.advance_beside.new.bad).items
@@ -99,7 +99,7 @@ returns-clause-kept g c =
     let at_end = (goal.at.returns-clause-kept g c).After-advance_beside in
     let kept = parts_are g at_end (λ parts owners old new. KeepsApart owners i.body.readers c.advance_beside.new.apart.inside c.advance_beside.new.good new)
     c.advance_beside.ensures.kept in
-    parts_apart i.body.parts.items i.body.agenda.marks i.body.agenda.waiting (length i.body.state.items) i.body.readers (rooms i.body.desk)
+    parts_apart i.body.parts.items i.body.agenda.marks i.body.agenda.waiting (length i.body.state.items) i.body.readers (rooms i.body.workspace)
     c.self.invariant.0.runs i.body.owners.items c.self.invariant.0.own c.advance_beside.new.apart.inside c.advance_beside.new.good _ kept
 
 pub returns-clause-ticks : goal.returns-clause-ticks

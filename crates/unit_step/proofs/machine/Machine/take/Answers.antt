@@ -4,15 +4,15 @@ use Rattle.std.specs.Bool.{OnTrue, OnFalse}
 use Rattle.std.specs.Vec.{with_items}
 use Rattle.std.proofs.lemmas.List.{with_items_is}
 use Rattle.ternary.specs.declared.tern.Tern.{Tern}
-use Rattle.oscillation_x.specs.Moved.{ListsChanges}
-use Rattle.oscillation_x.specs.Settling.{StaysOrBecomesX}
+use Rattle.settling.specs.Moved.{ListsChanges}
+use Rattle.settling.specs.Settling.{StaysOrBecomesX}
 use Rattle.machine_parts.specs.Marking.{marked_sum, instructions_of}
 use Rattle.std.specs.Prelude.{vec_capacity}
 use Rattle.machine_parts.specs.Stepping.{Remarks}
 use Rattle.wide_groups.specs.Moving.{MovesIn, RetouchesIn}
 use Rattle.wide_groups.specs.Awake.{HoldsWide, IsWorked}
-use Rattle.part_steps.specs.Desks.{rooms, nodes_noted}
-use Rattle.unit_step.specs.Lasting.{AreLasting}
+use Rattle.part_steps.specs.Workspaces.{rooms, nodes_noted}
+use Rattle.unit_step.specs.LastTexts.{AreLastTexts}
 use Rattle.machine_parts.proofs.MachineLemmas.{IsMachine-again}
 use Rattle.unit_step.proofs.ListingLemmas.{told_lists}
 use Rattle.unit_step.proofs.machine.Machine.take.Given.{Over}
@@ -31,10 +31,10 @@ invariant_of-self g c =
     let final = with_items_is i.body.state n (omega (arith, c.advance-moved.auto.state, c.deref_mut.ensures.len)) in
     let nodes = ap length final ∙ (c.advance-moved.auto.state ∙ ap length c.deref_mut.ensures.value) in (
       IsMachine-again i.body.parts.items i.body.agenda.marks c.advance-moved.new.agenda.marks i.body.agenda.waiting c.advance-moved.new.agenda.waiting
-          (length i.body.state.items) _ i.body.readers i.body.owners.items i.body.uses.numbers i.body.held i.body.most (rooms i.body.desk) (rooms c.advance-moved.new.desk)
+          (length i.body.state.items) _ i.body.readers i.body.owners.items i.body.uses.numbers i.body.held i.body.most (rooms i.body.workspace) (rooms c.advance-moved.new.workspace)
           step.marks.count step.waiting nodes step.rooms c.self.invariant.0,
       c.self.invariant.1,
-      subst (λ n. AreLasting i.body.parts.items i.body.uses.numbers n (length i.body.uses.known) i.body.lasting) (sym nodes) c.self.invariant.2,
+      subst (λ n. AreLastTexts i.body.parts.items i.body.uses.numbers n (length i.body.uses.known) i.body.last_texts) (sym nodes) c.self.invariant.2,
       subst (λ state. HoldsWide i.body.parts.items state (vec_capacity c.advance-moved.new.noted) c.advance-moved.new.wide) (sym final)
           (subst (λ list. HoldsWide list n (vec_capacity c.advance-moved.new.noted) c.advance-moved.new.wide) c.deref.ensures.value step.holds),
     )
@@ -107,7 +107,7 @@ returns-clause-rested g c = rw (← c.self.view_is) c.moves_after-self-inside.en
 pub returns-clause-listed : goal.returns-clause-listed
 returns-clause-listed g c =
     let i = c.self.inside in
-    let noted = nodes_noted (c.advance-moved.new.desk.changes.items ++ c.advance-moved.new.noted.items) in
+    let noted = nodes_noted (c.advance-moved.new.workspace.changes.items ++ c.advance-moved.new.noted.items) in
     rw (← c.self.view_is) (told_lists c.list.new.changed noted _ _
     (rw (c.deref-2.ensures.value, c.deref-3.ensures.value) at c.list.ensures.listed)
     (states_are g (goal.at.returns-clause-listed g c).After-advance-moved (ListsChanges noted) c.advance-moved.ensures.listed))

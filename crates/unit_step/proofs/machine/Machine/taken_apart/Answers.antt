@@ -5,12 +5,12 @@ use Rattle.std.proofs.lemmas.Bool.{cases_lt}
 use Rattle.std.proofs.lemmas.List.{get_or_past, length-map}
 use Rattle.smallvec.specs.SmallVec.{SmallVec}
 use Rattle.machine_parts.specs.Parts.{ReadsAt}
-use Rattle.part_steps.specs.Desks.{rooms}
+use Rattle.part_steps.specs.Workspaces.{rooms}
 use Rattle.machine_parts.specs.Readers.{readers_of}
 use Rattle.unit_step.proofs.machine.Machine.taken_apart.Goals as goal
 
 pub returns-clause-seated : goal.returns-clause-seated
-returns-clause-seated c = rw (← c.self.view_is) (rooms c.self.inside.body.desk, c.self.invariant.0.runs.seated)
+returns-clause-seated c = rw (← c.self.view_is) (rooms c.self.inside.body.workspace, c.self.invariant.0.runs.seated)
 
 pub returns-clause-apart : goal.returns-clause-apart
 returns-clause-apart c = rw (← c.self.view_is) c.self.invariant.0.runs.apart

@@ -1,16 +1,16 @@
 -- The parts that wait and whose groups have a text get it, and most of them their codes; the others are held, as before or anew.
 use Rattle.std.proofs.Common.{[], None, get_or, sym, subst}
 use Rattle.std.proofs.lemmas.Option.{slice_get-get_or}
-use Rattle.path_meaning.specs.Rails.{IsSound}
+use Rattle.switch_paths.specs.Rails.{IsSound}
 use Rattle.group_text.specs.FirstTexts.{new_texts}
 use Rattle.analysis_cache.specs.Keeping.{texts_of}
 use Rattle.circuit_texts.specs.Building.{BuildsFresh}
-use Rattle.machine_laws.specs.Editing.{Rouses}
+use Rattle.machine_laws.specs.Editing.{MakesReady}
 use Rattle.analysis_cache.proofs.HoldingLemmas.{HoldsNearlyKept-same}
 use Rattle.machine_laws.proofs.FillingLemmas.{on_err, IsGrown-same, IsGrown-filled, IsGrown-cut_off, Fills-filled, cut_off_front, cut_off_end}
 use Rattle.machine_laws.proofs.FinishingBuilds.{waiting_texts}
 use Rattle.unit_step.specs.Holding.{HoldsNextIn}
-use Rattle.unit_step.proofs.FinishingOrder.{Rouses-next}
+use Rattle.unit_step.proofs.FinishingOrder.{MakesReady-next}
 use Rattle.unit_step.proofs.HoldingLemmas.{HoldsWide-next, next_woken, StaysKnown-next}
 use Rattle.unit_step.proofs.WakingLemmas.{all_held, Wakes-none, Fills-none}
 use Rattle.unit_step.proofs.machine.Machine.wake.Given.{Over}
@@ -32,12 +32,12 @@ next_in : (g : Over) (c : In_ok-holding g) →
     HoldsNextIn c.args.large c.args.graph.now c.args.self.now c.in_ok-risen.risen.coded.items c.in_ok-holding.holding
 next_in g c = rw c.deref-2.ensures.value at c.in_ok-holding.ensures
 
-rouses_in : (g : Over) (c : After-hold-2 g) →
+makes_ready_in : (g : Over) (c : After-hold-2 g) →
     HoldsNextIn c.args.large c.args.graph.now c.args.self.now c.in_ok-risen.risen.coded.items c.in_ok-holding.holding →
-    Rouses c.args.graph.now c.args.self.now c.hold-2.new.self
-rouses_in g c next =
-    Rouses-next c.args.large c.args.graph.now c.args.self.now c.rouse.new.self c.hold-2.new.self c.in_ok-risen.risen.coded.items c.in_ok-holding.holding
-    c.requires.covers c.in_ok-rouse.ensures.wakes c.in_ok-sizes.ensures.few c.requires.railed c.requires.sound next c.hold-2.ensures
+    MakesReady c.args.graph.now c.args.self.now c.hold-2.new.self
+makes_ready_in g c next =
+    MakesReady-next c.args.large c.args.graph.now c.args.self.now c.make_ready.new.self c.hold-2.new.self c.in_ok-risen.risen.coded.items c.in_ok-holding.holding
+    c.requires.covers c.in_ok-make_ready.ensures.wakes c.in_ok-sizes.ensures.few c.requires.railed c.requires.sound next c.hold-2.ensures
 
 pub returns-in_err-sizes-clause-grown : goal.returns-in_err-sizes-clause-grown
 returns-in_err-sizes-clause-grown g c = IsGrown-same c.args.kept.now
@@ -50,13 +50,13 @@ returns-in_err-sizes-clause-nearly g c =
 pub hold-requires : goal.hold-requires
 hold-requires g c = tt
 
-pub returns-then-has_no_group-clause-rouses : goal.returns-then-has_no_group-clause-rouses
-returns-then-has_no_group-clause-rouses g c =
+pub returns-then-has_no_group-clause-makes_ready : goal.returns-then-has_no_group-clause-makes_ready
+returns-then-has_no_group-clause-makes_ready g c =
     let (told, without) = c.has_no_group.ensures.0 c.if-has_no_group.true in
     let due = c.in_ok-sizes.ensures.due in
     let graph = c.args.graph.now in
     let m = c.args.self.now in
-    Rouses-next c.args.large graph m m c.hold.new.self [] None c.requires.covers
+    MakesReady-next c.args.large graph m m c.hold.new.self [] None c.requires.covers
     (Wakes-none graph m c.requires.covers c.args.large c.in_ok-sizes.sizes due told without) c.in_ok-sizes.ensures.few c.requires.railed c.requires.sound
     (all_held graph m c.requires.covers c.args.large c.in_ok-sizes.sizes due told without) c.hold.ensures
 
@@ -100,18 +100,18 @@ returns-in_err-fresh-clause-grown g c =
 pub returns-in_err-fresh-clause-nearly : goal.returns-in_err-fresh-clause-nearly
 returns-in_err-fresh-clause-nearly g c = on_err c.from_residual-in_err-fresh.result c.in_err-fresh.ensures.nearly
 
-pub returns-in_err-rouse-clause-cut_off : goal.returns-in_err-rouse-clause-cut_off
-returns-in_err-rouse-clause-cut_off g c = λ is.
+pub returns-in_err-make_ready-clause-cut_off : goal.returns-in_err-make_ready-clause-cut_off
+returns-in_err-make_ready-clause-cut_off g c = λ is.
     cut_off_end c.args.large c.args.graph.now c.args.kept.now c.fill.new.self _ _ _ _ c.deref.result.now _ c.deref.ensures.value
-    (fresh_in g (goal.at.returns-in_err-rouse-clause-cut_off g c).In_ok-waking) c.in_ok-fresh.fresh c.in_ok-fresh.ensures.ok
+    (fresh_in g (goal.at.returns-in_err-make_ready-clause-cut_off g c).In_ok-waking) c.in_ok-fresh.fresh c.in_ok-fresh.ensures.ok
 
-pub returns-in_err-rouse-clause-grown : goal.returns-in_err-rouse-clause-grown
-returns-in_err-rouse-clause-grown g c =
+pub returns-in_err-make_ready-clause-grown : goal.returns-in_err-make_ready-clause-grown
+returns-in_err-make_ready-clause-grown g c =
     IsGrown-filled c.args.large c.args.graph.now c.args.kept.now c.fill.new.self _ _ _ _ c.deref.result.now c.in_ok-fresh.fresh c.in_ok-fresh.ensures.ok
 
-pub returns-in_err-rouse-clause-nearly : goal.returns-in_err-rouse-clause-nearly
-returns-in_err-rouse-clause-nearly g c =
-    on_err c.from_residual-in_err-rouse.result (λ holds.
+pub returns-in_err-make_ready-clause-nearly : goal.returns-in_err-make_ready-clause-nearly
+returns-in_err-make_ready-clause-nearly g c =
+    on_err c.from_residual-in_err-make_ready.result (λ holds.
     HoldsNearlyKept-same c.fill.new.self (g.A.Analyst.held c.fill.new.analyst) (c.in_ok-fresh.ensures.holds holds))
 
 pub returns-in_err-risen-clause-cut_off : goal.returns-in_err-risen-clause-cut_off
@@ -148,22 +148,23 @@ holding-requires g c = c.requires.covers.counted
 pub hold-requires-2 : goal.hold-requires-2
 hold-requires-2 g c =
     let m = c.args.self.now in
-    let wakes = c.in_ok-rouse.ensures.wakes in
+    let wakes = c.in_ok-make_ready.ensures.wakes in
     let next = next_in g (goal.at.hold-requires-2 g c).In_ok-holding in
-    HoldsWide-next c.args.large c.args.graph.now c.rouse.new.self wakes.ready c.in_ok-sizes.ensures.few c.requires.railed
+    HoldsWide-next c.args.large c.args.graph.now c.make_ready.new.self wakes.ready c.in_ok-sizes.ensures.few c.requires.railed
     (subst IsSound (sym wakes.state) c.requires.sound) c.in_ok-holding.holding
-    (next_woken c.args.graph.now m c.rouse.new.self c.in_ok-risen.risen.coded.items c.requires.covers wakes c.args.large c.in_ok-holding.holding next)
+    (next_woken c.args.graph.now m c.make_ready.new.self c.in_ok-risen.risen.coded.items c.requires.covers wakes c.args.large
+    c.in_ok-holding.holding next)
 
-pub returns-clause-rouses : goal.returns-clause-rouses
-returns-clause-rouses g c =
-    let at = goal.at.returns-clause-rouses g c in
-    rouses_in g at.After-hold-2 (next_in g at.In_ok-holding)
+pub returns-clause-makes_ready : goal.returns-clause-makes_ready
+returns-clause-makes_ready g c =
+    let at = goal.at.returns-clause-makes_ready g c in
+    makes_ready_in g at.After-hold-2 (next_in g at.In_ok-holding)
 
 pub returns-clause-stays : goal.returns-clause-stays
 returns-clause-stays g c =
     let large = c.args.large in
     let next = next_in g (goal.at.returns-clause-stays g c).In_ok-holding in
-    StaysKnown-next c.args.graph.now c.args.self.now c.rouse.new.self c.in_ok-risen.risen.coded.items c.requires.covers c.in_ok-rouse.ensures.wakes large
+    StaysKnown-next c.args.graph.now c.args.self.now c.make_ready.new.self c.in_ok-risen.risen.coded.items c.requires.covers c.in_ok-make_ready.ensures.wakes large
     c.in_ok-holding.holding c.hold-2.new.self next c.hold-2.ensures
 
 pub returns-clause-fills : goal.returns-clause-fills

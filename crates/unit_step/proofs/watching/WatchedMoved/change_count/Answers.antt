@@ -1,6 +1,6 @@
 -- With no list there is a number for each node.
 use Rattle.std.proofs.Common.{length, sym, ap, ◌∙◌}
-use Rattle.oscillation_x.proofs.NumbersLemmas.{numbers-count}
+use Rattle.settling.proofs.NumbersLemmas.{numbers-count}
 use Rattle.unit_step.proofs.watching.WatchedMoved.change_count.Goals as goal
 
 pub returns-in-None : goal.returns-in-None

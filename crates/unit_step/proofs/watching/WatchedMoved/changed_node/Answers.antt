@@ -1,7 +1,7 @@
 -- With no list the number that stands at a place is the place.
 use Rattle.std.proofs.Common.{◌<◌, length, arith}
-use Rattle.oscillation_x.specs.PlainStepping.{numbers_from}
-use Rattle.oscillation_x.proofs.NumbersLemmas.{numbers-count, number_at}
+use Rattle.settling.specs.PlainStepping.{numbers_from}
+use Rattle.settling.proofs.NumbersLemmas.{numbers-count, number_at}
 use Rattle.unit_step.proofs.watching.WatchedMoved.changed_node.Goals as goal
 
 pub returns-in-None : goal.returns-in-None

@@ -3,7 +3,7 @@ use Rattle.std.proofs.Common.{◌≡◌, sym, subst, arith}
 use Rattle.std.specs.Prelude.{Contains}
 use Rattle.std.specs.Vec.{with_items}
 use Rattle.std.proofs.lemmas.List.{with_items_is}
-use Rattle.path_meaning.specs.Switching.{state_at}
+use Rattle.switch_paths.specs.Switching.{state_at}
 use Rattle.vicinity.specs.Lists.{LiveListsData, places_of}
 use Rattle.vicinity.specs.LiveLists.{AreListsOf, TurnsGate}
 use Rattle.vicinity.proofs.LiveListsLemmas.{AreListsOf-turned}

@@ -2,7 +2,7 @@
 use Rattle.std.proofs.Common.{◌≡◌, ◌+◌, ◌-◌, ◌≤◌, ◌++◌, false, length, refl, sym, ap, subst, ◌∙◌, arith}
 use Rattle.std.specs.Prelude.{replicate}
 use Rattle.strength_order.specs.declared.TheConstants.{INPUT_LEVEL}
-use Rattle.path_meaning.specs.Graphs.{GraphData, nodes}
+use Rattle.switch_paths.specs.Graphs.{GraphData, nodes}
 use Rattle.vicinity.specs.LiveLists.{AreListsOf}
 use Rattle.vicinity.specs.Growing.{grown_graph, with_lists}
 use Rattle.vicinity.specs.Wides.{WideData}

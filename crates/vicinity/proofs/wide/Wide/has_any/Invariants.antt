@@ -1,7 +1,7 @@
 -- None of the nodes so far is a member.
 use Rattle.std.proofs.Common.{ℕ, take}
 use Rattle.std.specs.Prelude.{Contains}
-use Rattle.path_meaning.specs.Graphs.{IsStorage}
+use Rattle.switch_paths.specs.Graphs.{IsStorage}
 use Rattle.vicinity.proofs.wide.Wide.has_any.Given as goal
 
 abbrev pub invariant-loop-node : goal.invariant-loop-node

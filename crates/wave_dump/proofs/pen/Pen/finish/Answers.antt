@@ -2,7 +2,7 @@
 use Rattle.std.proofs.Common.{◌≡◌, ℕ, List, ap, subst}
 use Rattle.std.specs.Prelude.{OnErr, OnOk, is_some}
 use Rattle.std.specs.Io.KnownBytes.{append_known}
-use Rattle.port_edge.specs.Sending.{WritesPart}
+use Rattle.ports.specs.Sending.{WritesPart}
 use Rattle.wave_dump.specs.Pens.{SinkSeen}
 use Rattle.wave_dump.proofs.PenLemmas.{line_sent}
 use Rattle.wave_dump.proofs.pen.Pen.finish.Goals as goal

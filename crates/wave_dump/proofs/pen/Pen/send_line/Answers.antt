@@ -1,7 +1,7 @@
 -- The line was sent, or a part of it.
 use Rattle.std.proofs.Common.{◌≡◌, ◌∙◌, ℕ, List, Ok, Err, sym, subst}
 use Rattle.std.specs.Io.KnownBytes.{append_known}
-use Rattle.port_edge.specs.Sending.{WritesPart}
+use Rattle.ports.specs.Sending.{WritesPart}
 use Rattle.wave_dump.specs.Pens.{SinkSeen}
 use Rattle.wave_dump.proofs.PenLemmas.{line_sent, stands_sent}
 use Rattle.wave_dump.proofs.pen.Pen.send_line.Goals as goal

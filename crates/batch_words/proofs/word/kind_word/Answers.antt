@@ -1,7 +1,0 @@
-use Rattle.batch_words.proofs.LaneLemmas.{lane-kind}
-use Rattle.batch_words.proofs.word.kind_word.Goals as goal
-
-pub returns : goal.returns
-returns c lane inside =
-    lane-kind c.args.kind lane c.args.a c.args.b c.not_mask-turned.result c.or_mask-either.result
-    (c.not_mask-turned.ensures lane inside) (c.or_mask-either.ensures lane inside)

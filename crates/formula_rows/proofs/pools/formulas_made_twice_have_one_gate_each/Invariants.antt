@@ -1,5 +1,0 @@
--- The ledger of the test is the one that its blank becomes.
-use Rattle.formula_rows.proofs.pools.formulas_made_twice_have_one_gate_each.Given as goal
-
-abbrev pub ghosts-sizes : goal.ghosts-sizes
-ghosts-sizes g a = record { name = a.blank.name; parts = a.blank.parts }

@@ -1,5 +1,0 @@
--- Nothing counts the instructions.
-use Rattle.lane_machine.proofs.turns.TurnMachine.run_one.Given as goal
-
-abbrev pub ghosts-drive : goal.ghosts-drive
-ghosts-drive a = record { name = a.blank.name; parts = a.blank.parts }

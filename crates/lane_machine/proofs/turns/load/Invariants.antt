@@ -1,8 +1,0 @@
--- The nodes so far are loaded.
-use Rattle.std.proofs.Common.{take}
-use Rattle.std.specs.Prelude.{Contains}
-use Rattle.lane_machine.specs.Turns.{IsLoaded}
-use Rattle.lane_machine.proofs.turns.load.Given as goal
-
-abbrev pub invariant-loop-node : goal.invariant-loop-node
-invariant-loop-node l = IsLoaded l.graph l.lane (Contains (take l.node-index l.nodes)) l.hi l.lo l.initial.machine l.machine

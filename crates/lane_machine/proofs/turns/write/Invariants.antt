@@ -1,8 +1,0 @@
--- The nodes so far are written.
-use Rattle.std.proofs.Common.{take}
-use Rattle.std.specs.Prelude.{Contains}
-use Rattle.lane_machine.specs.Turns.{WritesAt}
-use Rattle.lane_machine.proofs.turns.write.Given as goal
-
-abbrev pub invariant-loop-node : goal.invariant-loop-node
-invariant-loop-node l = WritesAt (Contains (take l.node-index l.nodes)) l.lane l.state l.initial.hi l.initial.lo l.hi l.lo

@@ -1,8 +1,0 @@
-use Rattle.std.proofs.Common.{◌≡◌}
-use Rattle.script_lang.specs.Parts.{all_of}
-use Rattle.script_lang.proofs.ListLemmas.{with_front}
-use Rattle.lane_script.specs.Values.{lane_value_of}
-use Rattle.lane_script.proofs.reader.all_values.Given as goal
-
-abbrev pub invariant-loop-word : goal.invariant-loop-word
-invariant-loop-word l = all_of (lane_value_of l.lanes) l.fn.words ≡ with_front l.list (all_of (lane_value_of l.lanes) l.word-iterator)

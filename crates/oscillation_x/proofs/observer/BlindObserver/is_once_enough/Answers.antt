@@ -1,6 +1,0 @@
--- Who doesn't look sees nothing.
-use Rattle.std.proofs.Common.{refl}
-use Rattle.oscillation_x.proofs.observer.BlindObserver.is_once_enough.Goals as goal
-
-pub returns : goal.returns
-returns c = record { again = λ before states. refl }

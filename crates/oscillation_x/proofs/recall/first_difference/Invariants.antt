@@ -1,7 +1,0 @@
--- Before this node they don't differ.
-use Rattle.std.proofs.Common.{◌≡◌, ℕ, ◌<◌}
-use Rattle.path_meaning.specs.Switching.{state_at}
-use Rattle.oscillation_x.proofs.recall.first_difference.Given as goal
-
-abbrev pub invariant-loop-node : goal.invariant-loop-node
-invariant-loop-node l = (node : ℕ) → node < l.node → state_at l.one node ≡ state_at l.other node

@@ -1,6 +1,0 @@
--- The law of input nodes.
-use Rattle.path_meaning.proofs.InputNodes.{input_response}
-use Rattle.path_meaning.proofs.laws.input_nodes_keep_their_states.Goals as goal
-
-pub returns : goal.returns
-returns c = input_response

@@ -1,9 +1,0 @@
--- The places so far have their widths.
-use Rattle.std.proofs.Common.{◌≡◌, ℕ, ◌<◌, slice_index}
-use Rattle.path_meaning.specs.Graphs.{place_at}
-use Rattle.path_meaning.specs.Spread.{width}
-use Rattle.path_meaning.proofs.spread.put_widths.Given as goal
-
-abbrev pub invariant-loop-place : goal.invariant-loop-place
-invariant-loop-place l =
-    (place : ℕ) → place < l.place → slice_index l.widths place ≡ width l.sure l.state (place_at l.places place)
