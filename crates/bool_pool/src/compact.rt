@@ -11,7 +11,7 @@ use crate::{Gate, Id, Pool};
 use indexmap::IndexMap;
 use std::alloc::{AllocError, Global};
 use std::collections::BTreeSet;
-use table_keys::TableKeys;
+use table_keys::FoldedKeys;
 use ternary::NoMemory;
 
 impl Pool {
@@ -32,7 +32,7 @@ impl Pool {
         let places = places_reached(alloc, self, roots)?;
         let mut copies = Copies {
             pool: Pool::with_keys(alloc, self.keys()),
-            ids: IndexMap::with_hasher(alloc, self.keys()),
+            ids: IndexMap::with_hasher(alloc, self.keys().folded()),
         };
         for &place in &places {
             copies.add(self, place)?;
@@ -79,7 +79,7 @@ fn root_places(alloc: Global, roots: &[Id]) -> Result<BTreeSet<usize>, AllocErro
 struct Copies {
     pool: Pool,
     // for each place of the other pool that was copied: the formula here
-    ids: IndexMap<usize, Id, TableKeys>,
+    ids: IndexMap<usize, Id, FoldedKeys>,
 }
 
 impl Copies {

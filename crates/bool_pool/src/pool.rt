@@ -10,7 +10,7 @@ use indexmap::IndexSet;
 use std::alloc::{AllocError, Global};
 use std::marker::Model;
 use std::sync::ledger::Ledger;
-use table_keys::TableKeys;
+use table_keys::{FoldedKeys, TableKeys};
 use ternary::{NoMemory, Steps};
 
 /// An ordered set of gates.
@@ -19,7 +19,7 @@ use ternary::{NoMemory, Steps};
 /// gates, in order of place. Gates are only added, so each formula keeps its value and its reach.
 #[derive(Drop)]
 pub struct Pool {
-    gates: IndexSet<Gate, TableKeys>,
+    gates: IndexSet<Gate, FoldedKeys>,
 }
 
 impl Model for Pool {
@@ -50,7 +50,7 @@ impl Pool {
         ensures { result ≡ [] }
     {
         Pool {
-            gates: IndexSet::with_hasher(alloc, keys),
+            gates: IndexSet::with_hasher(alloc, keys.folded()),
         }
     }
 
@@ -187,7 +187,7 @@ impl Pool {
 
     // The keys from which the table's hashes start.
     pub(crate) fn keys(&self) -> TableKeys {
-        *self.gates.hasher()
+        self.gates.hasher().keys()
     }
 
     // The formula of a gate: the gate is looked up, and put at the end where it is not there.
