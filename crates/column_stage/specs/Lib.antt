@@ -3,3 +3,5 @@ pub mod Columns
 pub mod Edits
 pub mod Moving
 pub mod Seeing
+pub mod Standing
+pub mod Truths

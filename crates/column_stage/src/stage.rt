@@ -1,167 +1,99 @@
-//! The states of all columns, and what moves them.
+//! The stage of columns that have numbers: their states are looked at and placed one by one, and their moves never fail.
 
-ghost use Rattle.std.specs.Prelude.{◌≡◌, ℕ, ◌+◌, ◌<◌, ◌≤◌, ◌⊎◌, List, Option, Err, length, slice_set, slice_index_or, IfOk, IfErr, OnOk, OnErr};
-ghost use Rattle.ternary.specs.declared.tern.Tern.{Tern};
+ghost use Rattle.std.specs.Prelude.{◌≡◌, ℕ, ◌<◌, ◌≤◌, true, is_some, List, length, slice_set, slice_index_or, IfSome};
 ghost use Rattle.switch_paths.specs.declared.TheConstants.{RAILS};
-ghost use Rattle.switch_paths.specs.Graphs.{GraphData, nodes};
-ghost use Rattle.switch_paths.specs.Rails.{IsRailed};
+ghost use Rattle.switch_paths.specs.Graphs.{nodes};
 ghost use Rattle.switch_paths.specs.Step.{IsStep};
 ghost use Rattle.switch_paths.specs.Switching.{state_at};
 ghost use Rattle.settling.specs.declared.settling.TheConstants.{MOST_LIMIT};
 ghost use Rattle.settling.specs.declared.settling.Settled.{Settled};
+ghost use Rattle.settling.specs.Passing.{SteppingThrough};
 ghost use Rattle.settling.specs.Settling.{Settles};
 ghost use Rattle.group_text.specs.Texts.{GroupTextData};
-ghost use Rattle.group_analysis.specs.Using.{used_texts};
-ghost use Rattle.analysis_cache.specs.Keeping.{texts_of};
-ghost use Rattle.circuit_texts.specs.Sizes.{TellsRefused};
-ghost use Rattle.circuit_texts.specs.Building.{Builds};
-ghost use Rattle.column_stage.specs.Acts.{Act, Reserved, Placed, Edited, Built, Stepped, Rested};
-ghost use Rattle.column_stage.specs.Columns.{AreAmong, AreSound, IsLetters, letter_in, with_new_nodes};
-ghost use Rattle.column_stage.specs.Edits.{IsUndone};
-ghost use Rattle.column_stage.specs.declared.TheConstants.{NEW_NODES};
+ghost use Rattle.column_stage.specs.Acts.{Placed, Stepped, Rested};
+ghost use Rattle.column_stage.specs.Columns.{AreSound, IsLetters, letter_in};
+ghost use Rattle.column_stage.specs.Seeing.{PhaseThrough, SeesStates};
 
-use analysis_cache::{Analyst, Kept};
-use channel_groups::Change;
-use circuit_texts::BuildFault;
-use settling::{MOST_LIMIT, Settled};
-use std::alloc::Global;
+use crate::columns::Columns;
+use settling::{MOST_LIMIT, Onlooker, Settled};
 use switch_paths::Graph;
-use ternary::{NoMemory, Tern};
+use ternary::Tern;
 
-/// The states of all columns, and what moves them, if it is there already.
+/// A stage whose columns have numbers, so many that memory holds an entry for each, and whose moves never fail.
 ///
-/// Contracts see how many columns there are, and the states of each; for how many new nodes there is room; the texts
-/// that the groups had at the last build, which count as standing in front of what is kept; which graphs it serves
-/// while these texts are kept, so that a build goes on from what is there; which graphs it fits, so that it can take
-/// steps of them; what a build may have analysed that ran out of memory; and what an act did to it, which is the
-/// instance's own.
-pub trait Stage: Drop {
-    ghost columns: { Self → ℕ };
+/// The state of a node can be looked at in each column, and placed, one letter for all columns or one for each; and of a phase
+/// it is told of each column how many steps it took.
+///
+/// Contracts see one more meaning: whether it shows the states of its first column, also while they move. Then whoever looks
+/// on knows them.
+pub trait Stage: Columns {
+    ghost Shows: { Type 0 };
 
-    ghost states: { Self → ℕ → List Tern };
-
-    ghost spare: { Self → ℕ };
-
-    ghost last: { Self → List GroupTextData };
-
-    ghost serves: { Self → GraphData → List GroupTextData → Type 0 };
-
-    ghost fits: { Self → GraphData → Type 0 };
-
-    ghost cuts: { ℕ → GraphData → Option ℕ → List GroupTextData → List GroupTextData → List GroupTextData → List GroupTextData → Type 0 };
-
-    ghost did: { Act → Self → Self → Type 0 };
+    /// The state of each node in the first column, if they are shown.
+    fn shown(&self) -> Option<&[Tern]>
+        ensures value { IfSome result (λ state. Shows × (state.now ≡ Self.states self.now 0)) }
+        ensures there { Shows → is_some result ≡ true };
 
     /// How many columns there are.
     fn columns(&self) -> u32
-        ensures value { result ≡ columns self.now }
+        ensures value { result ≡ Self.columns self.now }
         ensures some { 1 ≤ result };
 
     /// The state of a node in a column.
     fn state(&self, node: usize, column: u32) -> Tern
-        requires column { column < columns self.now }
-        requires node { node < length (states self.now column) }
-        ensures { result ≡ state_at (states self.now column) node };
+        requires column { column < Self.columns self.now }
+        requires node { node < length (Self.states self.now column) }
+        ensures { result ≡ state_at (Self.states self.now column) node };
 
     /// Gives a node that is no rail its states: one letter for all columns, or one for each.
     fn place(&mut self, graph: &Graph, node: usize, letters: &[Tern])
-        requires sound { AreSound graph.now (columns self.old) (states self.old) }
+        requires sound { AreSound graph.now (Self.columns self.old) (Self.states self.old) }
         requires inside { node < nodes graph.now }
         requires no_rail { RAILS ≤ node }
-        requires letters { IsLetters (columns self.old) letters.now }
-        ensures columns { columns self.new ≡ columns self.old }
-        ensures states { (column : ℕ) → column < columns self.old → states self.new column ≡ slice_set (states self.old column) node (letter_in column letters.now) }
-        ensures last { last self.new ≡ last self.old }
-        ensures serves { (kept : List GroupTextData) → serves self.old graph.now kept → serves self.new graph.now kept }
-        ensures fits { fits self.old graph.now → fits self.new graph.now }
-        ensures did { did (Placed graph.now node letters.now) self.old self.new };
+        requires letters { IsLetters (Self.columns self.old) letters.now }
+        ensures columns { Self.columns self.new ≡ Self.columns self.old }
+        ensures states { (column : ℕ) → column < Self.columns self.old → Self.states self.new column ≡ slice_set (Self.states self.old column) node (letter_in column letters.now) }
+        ensures last { Self.last self.new ≡ Self.last self.old }
+        ensures serves { (kept : List GroupTextData) → Self.serves self.old graph.now kept → Self.serves self.new graph.now kept }
+        ensures fits { Self.fits self.old graph.now → Self.fits self.new graph.now }
+        ensures did { Self.did (Placed graph.now node letters.now) self.old self.new };
 
-    /// Takes room for the states of as many new nodes as one edit makes at most.
-    ///
-    /// Out of memory too the states stay, and what moves them.
-    fn reserve(&mut self) -> Result<(), NoMemory>
-        ensures room { OnOk result (NEW_NODES ≤ spare self.new) }
-        ensures columns { columns self.new ≡ columns self.old }
-        ensures states { (column : ℕ) → column < columns self.old → states self.new column ≡ states self.old column }
-        ensures last { last self.new ≡ last self.old }
-        ensures serves { (g : GraphData) (kept : List GroupTextData) → serves self.old g kept → serves self.new g kept }
-        ensures did { did Reserved self.old self.new };
+    /// Takes a unit step in each column, and shows the state behind it if it changed.
+    fn step<O: Onlooker>(&mut self, graph: &Graph, onlooker: &mut O)
+        requires fits { Self.fits self.old graph.now }
+        requires knows { Shows → O.knows onlooker.old (Self.states self.old 0) }
+        ensures columns { Self.columns self.new ≡ Self.columns self.old }
+        ensures steps { (column : ℕ) → column < Self.columns self.old → IsStep graph.now (Self.states self.old column) (Self.states self.new column) }
+        ensures last { Self.last self.new ≡ Self.last self.old }
+        ensures serves { (kept : List GroupTextData) → Self.serves self.old graph.now kept → Self.serves self.new graph.now kept }
+        ensures fits { Self.fits self.new graph.now }
+        ensures did { Self.did (Stepped graph.now) self.old self.new }
+        ensures seen { Shows → SeesStates O.see (SteppingThrough graph.now 1 (Self.states self.old 0)) (Self.states self.old 0) (Self.states self.new 0) (O.seen onlooker.old) (O.seen onlooker.new) }
+        ensures knows { Shows → O.knows onlooker.new (Self.states self.new 0) };
 
-    /// Goes on after an edit of the graph: each new node is X in each column, in room that is there. What served the graph
-    /// before serves the one after; if that lacks memory, what moves the states is let go.
-    fn edit(&mut self, alloc: Global, graph: &Graph, change: &Change, kept: &mut Kept)
-        requires before { (before : GraphData) × IsUndone before graph.now change.now × AreSound before (columns self.old) (states self.old)
-            × (nodes graph.now ≤ nodes before + spare self.old) × serves self.old before (used_texts (last self.old) (texts_of kept.old)) }
-        requires last { AreAmong (last self.old) (texts_of kept.old) }
-        ensures columns { columns self.new ≡ columns self.old }
-        ensures states { (column : ℕ) → column < columns self.old
-            → states self.new column ≡ with_new_nodes (states self.old column) (nodes graph.now) }
-        ensures kept { used_texts (last self.new) (texts_of kept.new) ≡ used_texts (last self.old) (texts_of kept.old) }
-        ensures last { AreAmong (last self.new) (texts_of kept.new) }
-        ensures bound { kept.new.bound ≡ kept.old.bound }
-        ensures serves { serves self.new graph.now (used_texts (last self.old) (texts_of kept.old)) }
-        ensures did { did (Edited graph.now change.now) self.old self.new };
-
-    /// Gets what takes steps of the graph: what is there goes on, and if there is nothing it is made.
-    ///
-    /// Texts that aren't kept are analysed first, each once, and kept; the answer is how many these are. What is kept,
-    /// with the texts of this build in front, is what a build leaves. The refusals are those of a build, with groups of
-    /// up to `large` members accepted; after them the states are as before, and what moves them.
-    fn build<A: Analyst>(
+    /// Settles in each column, and tells of each how many steps that took, and whether a joining one was among them. It shows
+    /// each state that it passes through.
+    fn settle<O: Onlooker>(
         &mut self,
-        alloc: Global,
         graph: &Graph,
-        large: usize,
-        kept: &mut Kept,
-        analyst: &mut A,
-    ) -> Result<u64, BuildFault>
-        requires railed { IsRailed graph.now }
-        requires sound { AreSound graph.now (columns self.old) (states self.old) }
-        requires serves { serves self.old graph.now (used_texts (last self.old) (texts_of kept.old)) }
-        requires last { AreAmong (last self.old) (texts_of kept.old) }
-        ensures fits { OnOk result (fits self.new graph.now) }
-        ensures serves { serves self.new graph.now (used_texts (last self.new) (texts_of kept.new)) }
-        ensures columns { columns self.new ≡ columns self.old }
-        ensures states { (column : ℕ) → column < columns self.old → states self.new column ≡ states self.old column }
-        ensures builds { IfOk result (Builds large graph.now kept.old.bound (used_texts (last self.old) (texts_of kept.old)) (used_texts (last self.new) (texts_of kept.new))
-            (A.analysed analyst.old) (A.analysed analyst.new)) }
-        ensures last { AreAmong (last self.new) (texts_of kept.new) }
-        ensures bound { kept.new.bound ≡ kept.old.bound }
-        ensures cut_off { result ≡ Err BuildFault.NoMemory → cuts large graph.now kept.old.bound (used_texts (last self.old) (texts_of kept.old)) (used_texts (last self.new) (texts_of kept.new))
-            (A.analysed analyst.old) (A.analysed analyst.new) }
-        ensures refused { IfErr result (λ fault. (fault ≡ BuildFault.NoMemory)
-            ⊎ (TellsRefused large graph.now fault × (kept.new ≡ kept.old) × (A.analysed analyst.new ≡ A.analysed analyst.old))) }
-        ensures err { OnErr result (self.new ≡ self.old) }
-        ensures did { OnOk result (did (Built large graph.now) self.old self.new) };
-
-    /// Takes a unit step in each column.
-    fn step(&mut self, graph: &Graph)
-        requires { fits self.old graph.now }
-        ensures columns { columns self.new ≡ columns self.old }
-        ensures steps { (column : ℕ) → column < columns self.old → IsStep graph.now (states self.old column) (states self.new column) }
-        ensures last { last self.new ≡ last self.old }
-        ensures serves { (kept : List GroupTextData) → serves self.old graph.now kept → serves self.new graph.now kept }
-        ensures fits { fits self.new graph.now }
-        ensures did { did (Stepped graph.now) self.old self.new };
-
-    /// Settles in each column, and tells of each how many steps that took, and whether a joining one was among them.
-    fn settle(&mut self, graph: &Graph, limit: u64, counts: &mut [Settled])
-        requires fits { fits self.old graph.now }
+        limit: u64,
+        counts: &mut [Settled],
+        onlooker: &mut O,
+    )
+        requires fits { Self.fits self.old graph.now }
         requires low { 1 ≤ limit }
         requires high { limit ≤ MOST_LIMIT }
-        requires counts { length counts.old ≡ columns self.old }
-        ensures columns { columns self.new ≡ columns self.old }
-        ensures counts { length counts.new ≡ columns self.old }
-        ensures settles { (column : ℕ) (past : Settled) → column < columns self.old
-            → Settles graph.now (states self.old column) limit (states self.new column) (slice_index_or counts.new column past).steps (slice_index_or counts.new column past).joined }
-        ensures last { last self.new ≡ last self.old }
-        ensures serves { (kept : List GroupTextData) → serves self.old graph.now kept → serves self.new graph.now kept }
-        ensures fits { fits self.new graph.now }
-        ensures did { did (Rested graph.now limit counts.new) self.old self.new };
-
-    /// Moves the texts of the last build to the front of what is kept, for what goes on without the stage.
-    fn use_last(&self, kept: &mut Kept)
-        requires { AreAmong (last self.now) (texts_of kept.old) }
-        ensures kept { texts_of kept.new ≡ used_texts (last self.now) (texts_of kept.old) }
-        ensures bound { kept.new.bound ≡ kept.old.bound };
+        requires counts { length counts.old ≡ Self.columns self.old }
+        requires knows { Shows → O.knows onlooker.old (Self.states self.old 0) }
+        ensures columns { Self.columns self.new ≡ Self.columns self.old }
+        ensures counts { length counts.new ≡ Self.columns self.old }
+        ensures settles { (column : ℕ) (past : Settled) → column < Self.columns self.old
+            → Settles graph.now (Self.states self.old column) limit (Self.states self.new column) (slice_index_or counts.new column past).steps (slice_index_or counts.new column past).joined }
+        ensures last { Self.last self.new ≡ Self.last self.old }
+        ensures serves { (kept : List GroupTextData) → Self.serves self.old graph.now kept → Self.serves self.new graph.now kept }
+        ensures fits { Self.fits self.new graph.now }
+        ensures did { Self.did (Rested graph.now limit counts.new) self.old self.new }
+        ensures seen { (past : Settled) → Shows
+            → SeesStates O.see (PhaseThrough graph.now limit (Self.states self.old 0) (slice_index_or counts.new 0 past).steps) (Self.states self.old 0) (Self.states self.new 0) (O.seen onlooker.old) (O.seen onlooker.new) }
+        ensures knows { Shows → O.knows onlooker.new (Self.states self.new 0) };
 }

@@ -1,8 +1,5 @@
--- A cycle, beat by beat.
--- The plan: a loop over the places of a cycle keeps what was done so far, the phases at the places before this one with their lines heard. At
--- the end these are all phases. After a fault the phases that are left were not done, but what they would have come to exists, since
--- every state settles: so what was heard is a part of the whole cycle's lines.
-use Rattle.std.proofs.Common.{◌≡◌, ℕ, zero, suc, ◌+◌, ◌-◌, ◌*◌, ◌%◌, ◌<◌, ◌≤◌, true, List, [], ◌∷◌, ◌++◌, length, map, All, Ok, Err, refl, sym, ap, subst, ◌∙◌, arith, append_assoc, append-nil}
+-- The places of a cycle: those up to one, that one, and those after it; and the phases at them, one after the other.
+use Rattle.std.proofs.Common.{◌≡◌, ℕ, zero, suc, ◌+◌, ◌-◌, ◌*◌, ◌%◌, ◌<◌, ◌≤◌, true, List, [], ◌∷◌, ◌++◌, length, map, All, refl, sym, ap, subst, ◌∙◌, arith, append_assoc, append-nil}
 use Rattle.std.specs.Prelude.{◌==◌}
 use Rattle.std.specs.List.{range_with_len, list_all}
 use Rattle.std.proofs.Math.Nat.{mul-add-mod_self_right, mod-eq_of_lt}
@@ -10,21 +7,9 @@ use Rattle.std.proofs.lemmas.List.{map-append}
 use Rattle.std.proofs.lemmas.List.Elements.{All-nil, All-cons}
 use Rattle.std.proofs.lemmas.Bool.{and_parts}
 use Rattle.std.proofs.lemmas.Bool.Decides.{nat_tests}
-use Rattle.ternary.specs.declared.tern.Tern.{Tern}
-use Rattle.told_lines.specs.Lines.{Line, Told}
-use Rattle.told_lines.specs.Hearing.{hear_all, HearsPart, of_column}
-use Rattle.told_lines.proofs.HearingLemmas.{hear_all-append, of_column-append, so_far-stopped}
-use Rattle.session_meaning.specs.declared.fault.ApplyFault.{ApplyFault}
-use Rattle.session_meaning.specs.Sessions.{SessionData, ClockData, IsReady, places_of, have_places}
+use Rattle.told_lines.specs.Lines.{Line}
+use Rattle.session_meaning.specs.Sessions.{SessionData, ClockData, have_places}
 use Rattle.session_meaning.specs.Effects.{IsPhase, AreBeats, with_beat, places_in}
-use Rattle.session_meaning.specs.Outcomes.{FrontDone, BeatsBegun, TakesBeats, IsDoneAndSent}
-use Rattle.session_meaning.proofs.EffectLemmas.{beats-ready, beats_exist}
-
--- phases at places keep the clocks
-pub clocks-beats : (places : List ℕ) (session new : SessionData) (lines : List Line) → AreBeats session places new lines → new.clocks ≡ session.clocks
-clocks-beats [] session new lines (same, none) = ap (λ (s : SessionData). s.clocks) same
-clocks-beats (place ∷ places) session new lines (mid, front, back, phase, beats, whole) =
-    clocks-beats places mid new back beats ∙ ap (λ (s : SessionData). s.clocks) phase.moved
 
 -- phases at places, and then at others
 pub beats-append : (first second : List ℕ) (session mid new : SessionData) (lines more : List Line) →
@@ -113,103 +98,3 @@ places_within [] count place even inside = All-nil (λ (clock : ClockData). plac
 places_within (clock ∷ clocks) count place even inside =
     let both = and_parts (length clock.states == count) (list_all (λ (other : ClockData). length other.states == count) clocks) even in
     All-cons (λ (other : ClockData). place < length other.states) clock clocks (grind (arith, nat_tests, both.0)) (places_within clocks count place both.1 inside)
-
--- ---- what was heard of them
-
-module _ {H : Type 0} (hear : H → Told → H) where
-  -- the phases at the places that are done, with their lines heard
-  pub record BeatsDone (start now : SessionData) (done : List ℕ) (before after : H) : Type 0 where
-    pub lines : List Line
-    pub beats : AreBeats start done now lines
-    pub heard : after ≡ hear_all hear before (of_column 0 lines)
-
-  -- more phases were done
-  pub beats_joined : (start now next : SessionData) (done more : List ℕ) (before mid after : H) (lines : List Line) →
-      BeatsDone start now done before mid → AreBeats now more next lines → after ≡ hear_all hear mid (of_column 0 lines) →
-      BeatsDone start next (done ++ more) before after
-  beats_joined start now next done more before mid after lines so_far beats heard = record {
-    lines = so_far.lines ++ lines;
-    beats = beats-append done more start now next so_far.lines lines so_far.beats beats;
-    heard = heard ∙ ap (λ h. hear_all hear h (of_column 0 lines)) so_far.heard
-        ∙ sym (hear_all-append hear before (of_column 0 so_far.lines) (of_column 0 lines))
-        ∙ ap (hear_all hear before) (sym (of_column-append 0 so_far.lines lines));
-  }
-
-  -- at the start nothing is done
-  pub beats_done-none : (session : SessionData) (count : ℕ) (before : H) → BeatsDone session session (places_in count 0) before before
-  beats_done-none session count before =
-      subst (λ (places : List ℕ). BeatsDone session session places before before) (sym (no_cycle count))
-      (record { lines = []; beats = (refl, refl); heard = refl })
-
-  -- phases at a prefix of more places, after those that are done, are phases at a prefix of all
-  front_more : (start now next : SessionData) (all done more rest : List ℕ) (before mid : H) → all ≡ done ++ (more ++ rest) →
-      BeatsDone start now done before mid → FrontDone more now next → FrontDone all start next
-  front_more start now next all done more rest before mid split so_far front = record {
-    done = done ++ front.done;
-    left = front.left ++ rest;
-    split = split ∙ ap (λ places. done ++ (places ++ rest)) front.split ∙ ap (λ places. done ++ places) (append_assoc front.done front.left rest)
-        ∙ sym (append_assoc done front.done (front.left ++ rest));
-    lines = so_far.lines ++ front.lines;
-    beats = beats-append done front.done start now next so_far.lines front.lines so_far.beats front.beats;
-  }
-
-  module _ (part : H → Told → H → Type 0) where
-    -- one more phase was done
-    pub beat_done : (start now next : SessionData) (state : List Tern) (done : List ℕ) (place : ℕ) (before mid after : H) →
-        BeatsDone start now done before mid → record now { state = state } ≡ with_beat now place →
-        IsDoneAndSent IsPhase hear part (record now { state = state }) next mid after (Ok tt) → BeatsDone start next (done ++ place ∷ []) before after
-    beat_done start now next state done place before mid after so_far beat sent =
-        beats_joined start now next done (place ∷ []) before mid after sent.lines so_far
-        (one_beat now next place sent.lines (subst (λ (s : SessionData). IsPhase s next sent.lines) beat sent.done)) sent.sent
-
-    -- a part of the lines of more phases was heard, and a prefix of them done: it is a part of the lines of all
-    beats_part : (start now next last : SessionData) (all done more rest : List ℕ) (before mid after : H) (lines : List Line) →
-        IsReady start → all ≡ done ++ (more ++ rest) → BeatsDone start now done before mid → AreBeats now more next lines →
-        HearsPart hear part mid after (of_column 0 lines) → FrontDone more now last → BeatsBegun hear part all start last before after
-    beats_part start now next last all done more rest before mid after lines ready split so_far beats heard front =
-        let others = beats_exist rest next (beats-ready more now next lines beats (beats-ready done start now so_far.lines so_far.beats ready)) in
-        let back : List Line = lines ++ others.1 in
-        let whole : List Line = so_far.lines ++ back in record {
-          end = others.0;
-          lines = whole;
-          beats = subst (λ places. AreBeats start places others.0 whole) (sym split)
-              (beats-append done (more ++ rest) start now others.0 so_far.lines back so_far.beats
-              (beats-append more rest now next others.0 lines others.1 beats others.2));
-          heard = so_far-stopped hear part before mid after (of_column 0 whole) (of_column 0 back) (of_column 0 lines) (of_column 0 others.1)
-              (of_column-append 0 lines others.1)
-              (record { done = of_column 0 so_far.lines; split = of_column-append 0 so_far.lines back; heard = so_far.heard }) heard;
-          done = front_more start now last all done more rest before mid split so_far front;
-        }
-
-    -- the hearer ended a phase
-    pub beat_stopped : (start now next : SessionData) (state : List Tern) (all done rest : List ℕ) (place : ℕ) (before mid after : H) (cause : ApplyFault) →
-        IsReady start → all ≡ done ++ (place ∷ rest) → BeatsDone start now done before mid → record now { state = state } ≡ with_beat now place →
-        IsDoneAndSent IsPhase hear part (record now { state = state }) next mid after (Err cause) → BeatsBegun hear part all start next before after
-    beat_stopped start now next state all done rest place before mid after cause ready split so_far beat sent =
-        let phase = one_beat now next place sent.lines (subst (λ (s : SessionData). IsPhase s next sent.lines) beat sent.done) in
-        beats_part start now next next all done (place ∷ []) rest before mid after sent.lines ready split so_far phase sent.sent
-        (record { done = place ∷ []; left = []; split = refl; lines = sent.lines; beats = phase })
-
-    -- one cycle more was run
-    pub cycle_done : (start now next : SessionData) (cycle : ℕ) (before mid after : H) →
-        BeatsDone start now (places_in (places_of start.clocks) cycle) before mid →
-        TakesBeats hear part (range_with_len 0 (places_of now.clocks)) now next mid after (Ok tt) →
-        BeatsDone start next (places_in (places_of start.clocks) (cycle + 1)) before after
-    cycle_done start now next cycle before mid after so_far (lines, beats, heard) =
-        let count : ℕ = places_of start.clocks in
-        let same : places_of now.clocks ≡ count = ap places_of (clocks-beats (places_in count cycle) start now so_far.lines so_far.beats) in
-        rw (cycles-next count cycle) (beats_joined start now next (places_in count cycle) (range_with_len 0 count) before mid after lines so_far
-        (subst (λ n. AreBeats now (range_with_len 0 n) next lines) same beats) heard)
-
-    -- the hearer ended a cycle
-    pub cycle_stopped : (start now next : SessionData) (cycle times : ℕ) (before mid after : H) (cause : ApplyFault) →
-        IsReady start → cycle < times → BeatsDone start now (places_in (places_of start.clocks) cycle) before mid →
-        TakesBeats hear part (range_with_len 0 (places_of now.clocks)) now next mid after (Err cause) →
-        BeatsBegun hear part (places_in (places_of start.clocks) times) start next before after
-    cycle_stopped start now next cycle times before mid after cause ready inside so_far begun =
-        let count : ℕ = places_of start.clocks in
-        let same : places_of now.clocks ≡ count = ap places_of (clocks-beats (places_in count cycle) start now so_far.lines so_far.beats) in
-        let others : CyclesSplit count cycle times = cycles-split count cycle times inside in
-        beats_part start now begun.end next (places_in count times) (places_in count cycle) (range_with_len 0 count) others.rest before mid after begun.lines
-        ready others.split so_far (subst (λ n. AreBeats now (range_with_len 0 n) begun.end begun.lines) same begun.beats) begun.heard
-        (subst (λ n. FrontDone (range_with_len 0 n) now next) same begun.done)

@@ -1,5 +1,5 @@
 -- Builds: a session is one afterwards, whether the stage was built or the build was refused; and what that comes to.
-use Rattle.std.proofs.Common.{◌≡◌, ℕ, ◌<◌, ◌≤◌, ◌⊎◌, inl, inr, List, length, Option, Result, Ok, Err, refl, sym, ap, subst, ◌∙◌}
+use Rattle.std.proofs.Common.{◌≡◌, ℕ, ◌<◌, ◌≤◌, ◌⊎◌, inl, inr, List, length, Option, Err, refl, sym, ap, subst, ◌∙◌}
 use Rattle.ternary.specs.declared.tern.Tern.{Tern}
 use Rattle.ternary.specs.Counts.{raised}
 use Rattle.switch_paths.specs.Graphs.{GraphData}
@@ -9,14 +9,12 @@ use Rattle.group_text.specs.FirstTexts.{new_texts}
 use Rattle.circuit_texts.specs.declared.texts.BuildFault.{BuildFault}
 use Rattle.circuit_texts.specs.declared.texts.BuildFault.TheVariants as build
 use Rattle.circuit_texts.specs.Sizes.{TellsRefused}
-use Rattle.circuit_texts.specs.Building.{Builds, IsCutOff}
-use Rattle.session_meaning.specs.declared.fault.ApplyFault.{ApplyFault}
-use Rattle.session_meaning.specs.declared.fault.ApplyFault.TheVariants.{Refused, GroupNodes, GroupSwitches, WriteFault, NoMemory}
+use Rattle.circuit_texts.specs.Building.{Builds}
 use Rattle.column_stage.specs.Acts.{Act, Built}
 use Rattle.column_stage.proofs.SoundLemmas.{sound_still}
 use Rattle.session_meaning.specs.Sessions.{SessionData, HeldSession, IsHeldSession, IsSession}
 use Rattle.session_meaning.specs.Preparing.{fault_of_build}
-use Rattle.session_meaning.specs.Stages.{Readied, Readies, ReadiesBy}
+use Rattle.session_meaning.specs.Stages.{Readied, ReadiesBy}
 use Rattle.session_meaning.proofs.ClockLemmas.{IsSession-beside}
 
 -- a session is one with the same state, another bound, other texts kept, and another count of them
@@ -89,19 +87,3 @@ module _ {M : Type 0} (cuts : ℕ → GraphData → Option ℕ → List GroupTex
     stage = stands;
     cut_off = cut refl;
   }
-
--- where a build that lacks memory is cut off, a plain session is readied so
-pub readies_plain : {M : Type 0} (cuts : ℕ → GraphData → Option ℕ → List GroupTextData → List GroupTextData → List GroupTextData → List GroupTextData → Type 0)
-    (did : Act → M → M → Type 0) (old new : HeldSession M) (asked told : List GroupTextData) (result : Result (Unit {0}) ApplyFault) →
-    ((large : ℕ) (g : GraphData) (bound : Option ℕ) (was now before after : List GroupTextData) → cuts large g bound was now before after →
-    IsCutOff large g was now before after) → ReadiesBy cuts did old new asked told result → Readies did old new asked told result
-readies_plain cuts did old new asked told (Ok done) law ready = ready
-readies_plain cuts did old new asked told (Err (Refused refusal)) law none = none
-readies_plain cuts did old new asked told (Err (GroupNodes node count)) law large = large
-readies_plain cuts did old new asked told (Err (GroupSwitches node count)) law large = large
-readies_plain cuts did old new asked told (Err WriteFault) law none = none
-readies_plain cuts did old new asked told (Err NoMemory) law cut = record {
-  core = cut.core;
-  stage = cut.stage;
-  cut_off = law old.core.large old.core.circuit.graph old.core.bound old.core.kept new.core.kept asked told cut.cut_off;
-}

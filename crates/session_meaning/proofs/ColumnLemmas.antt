@@ -9,7 +9,6 @@ use Rattle.ternary.specs.declared.tern.Tern.{Tern}
 use Rattle.ternary.specs.declared.tern.Tern.TheVariants.{Unk}
 use Rattle.switch_paths.specs.Graphs.{GraphData, nodes}
 use Rattle.switch_paths.specs.Step.{IsStep}
-use Rattle.switch_paths.specs.Switching.{state_at}
 use Rattle.settling.specs.declared.settling.Settled.{Settled}
 use Rattle.settling.specs.Settling.{Settles}
 use Rattle.group_text.specs.Texts.{GroupTextData}
@@ -26,12 +25,12 @@ use Rattle.column_script.specs.declared.command.ColumnCommand.TheVariants.{Share
 use Rattle.column_script.specs.Commands.{IsSharedSetup, value_in}
 use Rattle.session_meaning.specs.declared.fault.ApplyFault.{ApplyFault}
 use Rattle.session_meaning.specs.declared.fault.ApplyFault.TheVariants.{Refused, GroupNodes, GroupSwitches, WriteFault, NoMemory}
-use Rattle.session_meaning.specs.Sessions.{SessionData, HeldSession, ClockData, IsHeldSession, IsReady, IsSession}
+use Rattle.session_meaning.specs.Sessions.{SessionData, HeldSession, IsHeldSession, IsReady, IsSession}
 use Rattle.session_meaning.specs.Preparing.{IsBuild, with_present}
 use Rattle.session_meaning.specs.Effects.{assigned, circuit_after, one_more, setup_after, states_with, with_beat, with_circuit}
 use Rattle.session_meaning.specs.Outcomes.{Quietly}
-use Rattle.session_meaning.specs.Stages.{IsEditing, IsStill, Readied, ReadiesBy, acts_of_clocks}
-use Rattle.session_meaning.specs.Columns.{BeatInAll, Cuts, QuietlyInAll, SettledInAll, StepInAll, acts_of_letters, column_of, count_in, given_states}
+use Rattle.session_meaning.specs.Stages.{IsEditing, IsStill, Readied}
+use Rattle.session_meaning.specs.Columns.{BeatInAll, QuietlyInAll, SettledInAll, StepInAll, acts_of_letters, column_of, count_in, given_states}
 use Rattle.session_meaning.proofs.ClockLemmas.{IsSession-beside}
 use Rattle.session_meaning.proofs.LetterLemmas.{refused_alike}
 use Rattle.session_meaning.proofs.StateLemmas.{length-settles, sound-settles, sound-step}
@@ -56,6 +55,29 @@ pub column_data : {M : Type 0} (states : M → ℕ → List Tern) (new : HeldSes
     states new.stage column ≡ state → column_of states new column ≡ record core { state = state }
 column_data states new core column state same is =
     ap (λ (s : SessionData). record s { state = states new.stage column }) same ∙ ap (λ (one : List Tern). record core { state = one }) is
+
+-- clocks' nodes that were given their states in each column
+pub beat_put : {M : Type 0} (columns : M → ℕ) (states : M → ℕ → List Tern) (old new : HeldSession M) (place : ℕ) →
+    new.core ≡ with_beat old.core place →
+    ((column : ℕ) → column < columns old.stage → states new.stage column ≡ states_with old.core.clocks place (states old.stage column)) →
+    BeatInAll (columns old.stage) (column_of states old) (column_of states new) place
+beat_put columns states old new place beat each = record {
+  each = λ column inside.
+      column_data states new (with_beat old.core place) column (states_with old.core.clocks place (states old.stage column)) beat
+      (each column inside);
+}
+
+-- what was built for all columns was built for each
+pub column_built : {M : Type 0} (columns : M → ℕ) (states : M → ℕ → List Tern) (did : Act → M → M → Type 0) (old mid : HeldSession M)
+    (asked known : List GroupTextData) (ready : Readied did old mid asked known) →
+    ((column : ℕ) → column < columns old.stage → states mid.stage column ≡ states old.stage column) → (column : ℕ) → column < columns old.stage →
+    IsBuild (column_of states old column) (column_of states mid column) ready.texts
+column_built columns states did old mid asked known ready still column inside = record {
+  present = ready.build.present;
+  has = ready.build.has;
+  news = ready.build.news;
+  used = column_data states mid (with_present old.core ready.build.present) column (states old.stage column) ready.build.used (still column inside);
+}
 
 -- ---- acts
 
@@ -124,32 +146,6 @@ module _ {M : Type 0} (columns : M → ℕ) (states : M → ℕ → List Tern) (
       column < columns old → states new column ≡ assigned (states old column) (given_states c (map (value_in column) list))
   letters_moved c list old new leads = (letters_led c list old new leads).1
 
-  -- clocks' nodes are given their states in each column
-  clocks_led : (g : GraphData) (clocks : List ClockData) (place : ℕ) (old new : M) → Leads did old (acts_of_clocks g clocks place) new →
-      (columns new ≡ columns old) × ((column : ℕ) → column < columns old → states new column ≡ states_with clocks place (states old column))
-  clocks_led g [] place old new same = (ap columns same, λ column inside. ap (λ (stage : M). states stage column) same)
-  clocks_led g (clock ∷ clocks) place old new (mid, done, rest) =
-      let moved = moves (Placed g clock.node (state_at clock.states place ∷ [])) old mid done in
-      let later = clocks_led g clocks place mid new rest in (
-        later.0 ∙ moved.count,
-        λ column inside.
-            later.1 column (subst (λ (n : ℕ). column < n) (sym moved.count) inside) ∙ ap (states_with clocks place) (moved.each column inside),
-      )
-
-  pub clocks_count : (g : GraphData) (clocks : List ClockData) (place : ℕ) (old new : M) → Leads did old (acts_of_clocks g clocks place) new →
-      columns new ≡ columns old
-  clocks_count g clocks place old new leads = (clocks_led g clocks place old new leads).0
-
-  -- so the beat is put in each
-  pub beat_put : (old new : HeldSession M) (place : ℕ) → new.core ≡ with_beat old.core place →
-      Leads did old.stage (acts_of_clocks old.core.circuit.graph old.core.clocks place) new.stage →
-      BeatInAll (columns old.stage) (column_of states old) (column_of states new) place
-  beat_put old new place beat leads = record {
-    each = λ column inside.
-        column_data states new (with_beat old.core place) column (states_with old.core.clocks place (states old.stage column)) beat
-        ((clocks_led old.core.circuit.graph old.core.clocks place old.stage new.stage leads).1 column inside);
-  }
-
   -- ---- edits
 
   module _ (serves : M → GraphData → List GroupTextData → Type 0) (old new : HeldSession M) (edit : Edit)
@@ -192,33 +188,6 @@ module _ {M : Type 0} (columns : M → ℕ) (states : M → ℕ → List Tern) (
         OnErr result (IsStill did old.stage new.stage) → columns new.stage ≡ columns old.stage
     edit_keeps_columns (Ok done) led still = (grown_by led.acts old.stage new.stage led.each led.leads).0
     edit_keeps_columns (Err fault) led still = (still_states old.stage new.stage still).0
-
-  -- ---- builds
-
-  module _ (old mid : HeldSession M) (asked known : List GroupTextData) (ready : Readied did old mid asked known) where
-    -- there are as many
-    pub built_count : columns mid.stage ≡ columns old.stage
-    built_count = (moves (Built old.core.large old.core.circuit.graph) old.stage mid.stage ready.built).count
-
-    -- what was built for all columns was built for each
-    pub column_built : (column : ℕ) → column < columns old.stage → IsBuild (column_of states old column) (column_of states mid column) ready.texts
-    column_built column inside = record {
-      present = ready.build.present;
-      has = ready.build.has;
-      news = ready.build.news;
-      used = column_data states mid (with_present old.core ready.build.present) column (states old.stage column) ready.build.used
-          ((moves (Built old.core.large old.core.circuit.graph) old.stage mid.stage ready.built).each column inside);
-    }
-
-  -- there are as many columns, whatever a build comes to
-  pub ready_count : (cuts : Cuts) (old mid : HeldSession M) (asked known : List GroupTextData) (result : Result (Unit {0}) ApplyFault) →
-      ReadiesBy cuts did old mid asked known result → columns mid.stage ≡ columns old.stage
-  ready_count cuts old mid asked known (Ok done) ready = built_count old mid asked known ready
-  ready_count cuts old mid asked known (Err (Refused refusal)) none = absurd none
-  ready_count cuts old mid asked known (Err (GroupNodes node count)) large = ap (λ (s : HeldSession M). columns s.stage) large.same
-  ready_count cuts old mid asked known (Err (GroupSwitches node count)) large = ap (λ (s : HeldSession M). columns s.stage) large.same
-  ready_count cuts old mid asked known (Err WriteFault) none = absurd none
-  ready_count cuts old mid asked known (Err NoMemory) cut = ap columns cut.stage
 
 -- ---- settings
 

@@ -29,3 +29,5 @@ pub mod ColumnLemmas
 pub mod RowLemmas
 pub mod BeatRowLemmas
 pub mod InAllLemmas
+pub mod OneColumnLemmas
+pub mod TruthLemmas

@@ -6,19 +6,18 @@ use Rattle.circuit_texts.specs.declared.texts.BuildFault.TheVariants as build
 use Rattle.group_text.specs.Texts.{GroupTextData}
 use Rattle.script_lang.specs.declared.command.Command.{Command}
 use Rattle.script_lang.specs.declared.command.Command.TheVariants as family
-use Rattle.script_lang.specs.declared.command.Run.TheVariants.{Cycle}
 use Rattle.session_meaning.specs.declared.fault.Refusal.{Refusal}
 use Rattle.session_meaning.specs.declared.fault.ApplyFault.{ApplyFault}
 use Rattle.session_meaning.specs.declared.fault.ApplyFault.TheVariants.{Refused, GroupNodes, GroupSwitches, WriteFault, NoMemory}
-use Rattle.session_meaning.specs.Sessions.{SessionData, HeldSession, places_of}
+use Rattle.session_meaning.specs.Sessions.{SessionData, HeldSession}
 use Rattle.session_meaning.specs.Refusals.{refusal_of}
 use Rattle.session_meaning.specs.Preparing.{builds, with_present, IsBuild, IsFaultFor, BuildsIf, Prepares, NamesNode}
 use Rattle.told_lines.specs.Lines.{Line, Told}
-use Rattle.session_meaning.specs.Effects.{Effect, places_in}
+use Rattle.session_meaning.specs.Effects.{Effect}
 use Rattle.session_meaning.specs.Sinks.{IsSinkFault, faults_with, refusals_sent, refusals_with}
 use Rattle.column_stage.specs.Acts.{Act, Reserved}
-use Rattle.session_meaning.specs.Outcomes.{Performs, DoesPart, Begins, Obeys, Quietly, Sent, TakesBeats, IsDoneAndSent}
-use Rattle.session_meaning.specs.Stages.{IsStageAfter, IsStill, ObeysOn, Readied, Readies}
+use Rattle.session_meaning.specs.Outcomes.{Performs, DoesPart, Begins, Obeys, Quietly, Sent}
+use Rattle.session_meaning.specs.Stages.{IsStageAfter, IsStill, ObeysOn}
 use Rattle.circuit_texts.proofs.SizeLemmas.{told_node}
 
 -- what holds anyhow holds where all went well
@@ -199,83 +198,6 @@ module _ {H M : Type 0} (hear : H → Told → H) (part : H → Told → H → T
   pub stopped_obeys : (session : HeldSession M) (command : Command) (before : H) (texts : List GroupTextData) (refusals : ℕ) →
       ObeysOn hear part did session command session before before texts texts refusals refusals (Err NoMemory)
   stopped_obeys session command before texts refusals = fault_obeys session command before texts refusals NoMemory tt
-
-  -- and one for which the circuit wasn't built
-  pub unready_obeys : (old new : HeldSession M) (command : Command) (before : H) (asked told : List GroupTextData) (refusals : ℕ) (fault : ApplyFault) →
-      builds command ≡ true → refusal_of old.core command ≡ None → Readies did old new asked told (Err fault) →
-      ObeysOn hear part did old command new before before asked told refusals refusals (Err fault)
-  unready_obeys old new command before asked told refusals (Refused refusal) building allowed unready = absurd unready
-  unready_obeys old new command before asked told refusals (GroupNodes node count) building allowed unready = (
-    (
-      record {
-        allowed = allowed;
-        building = building;
-        first = unready.first;
-        keeps = record { same = ap (λ (s : HeldSession M). s.core) unready.same; unheard = refl; unasked = unready.unasked };
-      },
-      inl (ap (λ (s : HeldSession M). s.stage) unready.same),
-    ),
-    refl,
-  )
-  unready_obeys old new command before asked told refusals (GroupSwitches node count) building allowed unready = (
-    (
-      record {
-        allowed = allowed;
-        building = building;
-        first = unready.first;
-        keeps = record { same = ap (λ (s : HeldSession M). s.core) unready.same; unheard = refl; unasked = unready.unasked };
-      },
-      inl (ap (λ (s : HeldSession M). s.stage) unready.same),
-    ),
-    refl,
-  )
-  unready_obeys old new command before asked told refusals WriteFault building allowed unready = absurd unready
-  unready_obeys old new command before asked told refusals NoMemory building allowed unready =
-      inl ((record { core = unready.core; cut_off = unready.cut_off; unheard = refl }, inl unready.stage), refl)
-
-  -- where the circuit was built before it
-  pub ready_obeys : (old mid new : HeldSession M) (command : Command) (before after : H) (asked told : List GroupTextData) (refusals now : ℕ)
-      (result : Result (Unit {0}) ApplyFault) → builds command ≡ true → refusal_of old.core command ≡ None →
-      ((lines : List Line) → Effect mid.core command new.core lines → DoesPart mid.core command new.core) → Readied did old mid asked told →
-      IsDoneAndSent (λ core next. Effect core command next) hear part mid.core new.core before after result → IfErr result IsSinkFault →
-      now ≡ refusals_sent refusals result → OnOk result (IsStageAfter did old command new) →
-      ObeysOn hear part did old command new before after asked told refusals now result
-  unfolding built_performs
-  ready_obeys old mid new command before after asked told refusals now result building allowed part_of ready sent cause counted later =
-      sent_obeys old new command sent.lines ready.texts before after asked told refusals now result
-      (built_performs old.core mid.core new.core command sent.lines ready.texts building ready.build allowed sent.done) (part_of sent.lines sent.done)
-      ready.analysed sent.sent cause counted later
-
-  -- phases at the places of a cycle were done after a build, or a prefix of them: the cycle is obeyed
-  pub cycle_obeys : (old mid new : HeldSession M) (times : ℕ) (before after : H) (asked told : List GroupTextData) (refusals now : ℕ)
-      (result : Result (Unit {0}) ApplyFault) → refusal_of old.core (family.Run (Cycle times)) ≡ None → Readied did old mid asked told →
-      TakesBeats hear part (places_in (places_of mid.core.clocks) times) mid.core new.core before after result → IfErr result IsSinkFault →
-      now ≡ refusals_sent refusals result → OnOk result (IsStageAfter did old (family.Run (Cycle times)) new) →
-      ObeysOn hear part did old (family.Run (Cycle times)) new before after asked told refusals now result
-  unfolding built_performs
-  cycle_obeys old mid new times before after asked told refusals now (Ok finished) allowed ready (lines, beats, heard) cause counted later = (
-    (
-      record {
-        lines = lines;
-        texts = ready.texts;
-        performs = built_performs old.core mid.core new.core (family.Run (Cycle times)) lines ready.texts refl ready.build allowed beats;
-        heard = heard;
-        analysed = ready.analysed;
-      },
-      later,
-    ),
-    counted,
-  )
-  cycle_obeys old mid new times before after asked told refusals now (Err fault) allowed ready begun cause counted later =
-      begun_obeys old new (family.Run (Cycle times)) before after asked told refusals now fault (record {
-        end = begun.end;
-        lines = begun.lines;
-        texts = ready.texts;
-        performs = built_performs old.core mid.core begun.end (family.Run (Cycle times)) begun.lines ready.texts refl ready.build allowed begun.beats;
-        heard = begun.heard;
-        done = begun.done;
-        analysed = ready.analysed;
-      }) cause counted
 
   -- what a command comes to with the stage it comes to without
   pub obeys_alone : (old new : HeldSession M) (command : Command) (before after : H) (asked told : List GroupTextData) (refusals now : ℕ)

@@ -326,17 +326,6 @@ module _ {O : Type 0} (knows : O → List Tern → Type 0) (onlooker : O) (old n
       }
   knows-tell hear part tell before after asked told refusals now (Err fault) obeys = tt
 
-  -- a report leaves the state
-  pub knows-report : {H : Type 0} (hear : H → Told → H) (part : H → Told → H → Type 0) (before after : H) (asked told : List GroupTextData)
-      (refusals now : ℕ) (result : Result (Unit {0}) ApplyFault) → Obeys hear part old (family.Run Report) new before after asked told refusals now result →
-      OnOk result (knows onlooker new.state)
-  knows-report hear part before after asked told refusals now (Ok _) obeys =
-      let performs = obeys.0.performs in
-      let same : new.state ≡ old.state =
-      ap (λ (s : SessionData). s.state) performs.does.effect.moved ∙ ap (λ (s : SessionData). s.state) performs.prepares.used in
-      subst (knows onlooker) (sym same) known
-  knows-report hear part before after asked told refusals now (Err fault) obeys = tt
-
 -- who was shown the unit steps of a command knows what they left
 pub knows-run : {O : Type 0} (knows : O → List Tern → Type 0) (onlooker : O) (old new : SessionData) (run : Run) → knows onlooker new.state →
     KnowsBehind knows onlooker old (family.Run run) new
@@ -434,12 +423,10 @@ known_but_clocks knows onlooker clocks state within known = (
   },
 )
 
--- so it is behind a build
-pub known-readied : {O M : Type 0} (knows : O → List Tern → Type 0) (onlooker : O) (did : Act → M → M → Type 0) (old mid : HeldSession M) (asked told : List GroupTextData) →
-    IsSession old.core → Readied did old mid asked told → knows onlooker old.core.state → KnowsButClocks knows onlooker mid.core.clocks mid.core.state
-known-readied knows onlooker did old mid asked told is ready known =
-    subst (λ (s : SessionData). KnowsButClocks knows onlooker s.clocks s.state) (sym ready.build.used)
-    (known_but_clocks knows onlooker old.core.clocks old.core.state (rw is.ready.states is.clocks) known)
+-- so it is in a session
+pub known_at : {O : Type 0} (knows : O → List Tern → Type 0) (onlooker : O) (session : SessionData) → IsSession session → knows onlooker session.state →
+    KnowsButClocks knows onlooker session.clocks session.state
+known_at knows onlooker session is known = known_but_clocks knows onlooker session.clocks session.state (rw is.ready.states is.clocks) known
 
 -- and behind the placing of a cycle's letters
 pub known-put : {O : Type 0} (knows : O → List Tern → Type 0) (onlooker : O) (start now put : SessionData) (place : ℕ) → IsSession start →

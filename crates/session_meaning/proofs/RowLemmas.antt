@@ -1,9 +1,10 @@
 -- The rows of columns' lines: they are one list, they join, they are there where the columns have equally many lines, and what is there of each column is
 -- there of all.
-use Rattle.std.proofs.Common.{◌≡◌, ℕ, zero, suc, ◌+◌, ◌<◌, ◌≤◌, List, [], ◌∷◌, ◌++◌, length, refl, sym, ap, subst, ◌∙◌, append_assoc, append-nil, arith, inl, inr}
+use Rattle.std.proofs.Common.{◌≡◌, ℕ, zero, suc, ◌<◌, ◌≤◌, List, [], ◌∷◌, ◌++◌, length, refl, sym, ap, subst, ◌∙◌, append_assoc, append-nil, arith, inl, inr}
 use Rattle.std.proofs.lemmas.Bool.{cases_lt}
 use Rattle.std.specs.Prelude.{◌⊎◌}
 use Rattle.told_lines.specs.Lines.{Line, Told, Reported}
+use Rattle.told_lines.specs.Hearing.{of_column}
 use Rattle.told_lines.proofs.RowLemmas.{row-alike, row_of_lines}
 use Rattle.session_meaning.specs.Columns.{AreRows}
 use Rattle.session_meaning.specs.Columns.AreRows.{no_row, one_more}
@@ -29,6 +30,18 @@ rows_unique {columns} some same (one_more lines rest line told parts rows) (one_
     ap (λ (row : List Told). row ++ told) (row-alike line other columns here)
     ∙ ap (λ (after : List Told). row_of_lines other columns ++ after) (rows_unique some later rows further)
 
+-- of one column they are its lines
+pub rows_of_one : {columns : ℕ} {lines : ℕ → List Line} {told : List Told} → columns ≡ 1 → AreRows columns lines told → told ≡ of_column 0 (lines 0)
+rows_of_one {columns} one (no_row lines none) =
+    let some : 0 < columns = omega (arith, one) in
+    sym (ap (of_column 0) (none 0 some))
+rows_of_one {columns} one (one_more lines others line told parts rows) =
+    let some : 0 < columns = omega (arith, one) in
+    let single : columns ≡ suc zero = omega (arith, one) in
+    ap (λ (n : ℕ). row_of_lines line n ++ told) single
+    ∙ ap (λ (rest : List Told). record { column = 0; line = line 0 } ∷ rest) (rows_of_one one rows)
+    ∙ sym (ap (of_column 0) (parts 0 some))
+
 -- ---- rows
 
 -- no lines are told as none
@@ -40,6 +53,14 @@ pub rows-one : (columns : ℕ) (line : ℕ → Line) → AreRows columns (λ col
 rows-one columns line =
     subst (AreRows columns (λ column. line column ∷ [])) (append-nil (row_of_lines line columns))
     (one_more (λ column. line column ∷ []) (λ column. []) line [] (λ column inside. refl) (rows-none columns))
+
+-- the lines of one column are rows
+pub rows_in_one : (columns : ℕ) → columns ≡ 1 → (lines : List Line) → AreRows columns (λ column. lines) (of_column 0 lines)
+rows_in_one columns one [] = rows-none columns
+rows_in_one columns one (line ∷ lines) =
+    let single : suc zero ≡ columns = omega (arith, one) in
+    subst (λ (row : List Told). AreRows columns (λ column. line ∷ lines) (row ++ of_column 0 lines)) (sym (ap (row_of_lines (λ column. line)) single))
+    (one_more (λ column. line ∷ lines) (λ column. lines) (λ column. line) (of_column 0 lines) (λ column inside. refl) (rows_in_one columns one lines))
 
 -- rows, and then more
 pub rows-append : {columns : ℕ} {lines : ℕ → List Line} {told : List Told} (more : ℕ → List Line) (next : List Told) → AreRows columns lines told →

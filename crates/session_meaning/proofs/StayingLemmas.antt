@@ -1,11 +1,10 @@
 -- A session stays one while its stage moves: the stage has as many columns still, sound states in each, and serves.
-use Rattle.std.proofs.Common.{◌≡◌, ℕ, ◌≤◌, List, length, refl, sym, subst}
+use Rattle.std.proofs.Common.{◌≡◌, ℕ, ◌≤◌, List, refl, sym, subst}
 use Rattle.ternary.specs.declared.tern.Tern.{Tern}
-use Rattle.switch_paths.specs.Graphs.{GraphData, nodes}
-use Rattle.switch_paths.specs.Rails.{IsSound}
+use Rattle.switch_paths.specs.Graphs.{GraphData}
 use Rattle.group_text.specs.Texts.{GroupTextData}
 use Rattle.column_stage.specs.Columns.{AreSound, IsSoundState}
-use Rattle.column_stage.proofs.SoundLemmas.{first_of_some, some_alone, sound_alone}
+use Rattle.column_stage.proofs.SoundLemmas.{first_of_some}
 use Rattle.session_meaning.specs.Sessions.{SessionData, HeldSession, IsHeldSession}
 use Rattle.session_meaning.proofs.ClockLemmas.{IsSession-beside}
 
@@ -35,20 +34,7 @@ module _ {M : Type 0} (columns : M → ℕ) (states : M → ℕ → List Tern) (
   abbrev pub moved : HeldSession M → M → ℕ → List GroupTextData → HeldSession M
   moved session stage count kept = record { core = record session.core { state = states stage 0; count = count; kept = kept }; stage = stage }
 
-  -- it is one
-  pub held_moved : (session : HeldSession M) (stage : M) (count : ℕ) (kept : List GroupTextData) → kept ≡ session.core.kept → columns stage ≡ 1 →
-      length (states stage 0) ≡ nodes session.core.circuit.graph → IsSound (states stage 0) →
-      serves stage session.core.circuit.graph session.core.kept → IsHeldSession columns states serves session →
-      IsHeldSession columns states serves (moved session stage count kept)
-  held_moved session stage count kept same one counted sound serving held = record {
-    core = IsSession-beside session.core (states stage 0) count session.core.missed session.core.bound kept session.core.fresh counted sound held.core;
-    some = some_alone (columns stage) one;
-    sound = sound_alone session.core.circuit.graph (columns stage) (states stage) one (record { counted = counted; sound = sound });
-    same = refl;
-    served = subst (serves stage session.core.circuit.graph) (sym same) serving;
-  }
-
-  -- so it is with columns that are sound
+  -- it is one, if its columns are sound
   pub held_beside : (session : HeldSession M) (stage : M) (count : ℕ) (kept : List GroupTextData) → kept ≡ session.core.kept → 1 ≤ columns stage →
       AreSound session.core.circuit.graph (columns stage) (states stage) → serves stage session.core.circuit.graph session.core.kept →
       IsHeldSession columns states serves session → IsHeldSession columns states serves (moved session stage count kept)

@@ -9,4 +9,5 @@ pub mod Switches
 pub mod Outcomes
 pub mod Stages
 pub mod Columns
+pub mod Truths
 pub mod Laws

@@ -124,22 +124,6 @@ Obeys hear part old command new before after asked told refusals now result =
 abbrev pub Sent : {H : Type 0} → (H → Told → H) → (H → Told → H → Type 0) → H → H → List Line → Result (Unit {0}) ApplyFault → Type 0
 Sent hear part before after lines result = Hears hear part before after (of_column 0 lines) result
 
--- the phases at a prefix of these places were done, and a part of the lines of all was heard, from the start
-pub record BeatsBegun {H : Type 0} (hear : H → Told → H) (part : H → Told → H → Type 0) (places : List ℕ) (old new : SessionData)
-    (before after : H) : Type 0 where
-  pub end : SessionData
-  pub lines : List Line
-  pub beats : AreBeats old places end lines
-  pub heard : HearsPart hear part before after (of_column 0 lines)
-  pub done : FrontDone places old new
-
--- the phases at these places were done and their lines heard, or those at a prefix of them and a part of the lines
-abbrev pub TakesBeats : {H : Type 0} → (H → Told → H) → (H → Told → H → Type 0) → List ℕ → SessionData → SessionData → H → H →
-    Result (Unit {0}) ApplyFault → Type 0
-TakesBeats hear part places old new before after (Ok _) =
-    (lines : List Line) × AreBeats old places new lines × (after ≡ hear_all hear before (of_column 0 lines))
-TakesBeats hear part places old new before after (Err fault) = BeatsBegun hear part places old new before after
-
 -- what leads from data to other data with these lines was done, as a unit step, a phase or a report, and the lines were heard, or a part
 -- of them
 pub record IsDoneAndSent (Does : SessionData → SessionData → List Line → Type 0) {H : Type 0} (hear : H → Told → H) (part : H → Told → H → Type 0)

@@ -10,7 +10,6 @@ use Rattle.group_text.specs.Texts.{GroupTextData}
 use Rattle.circuit_texts.specs.declared.texts.BuildFault.{BuildFault}
 use Rattle.circuit_texts.specs.declared.texts.BuildFault.TheVariants as build
 use Rattle.circuit_texts.specs.Sizes.{TellsRefused}
-use Rattle.circuit_texts.specs.Building.{IsCutOff}
 use Rattle.channel_groups.specs.declared.change.Change.{Change}
 use Rattle.column_stage.specs.Acts.{Act, Reserved, Placed, Edited, Built, Stepped, Rested, Leads, LeadsBy}
 use Rattle.netlist.specs.Circuits.{CircuitData}
@@ -25,7 +24,7 @@ use Rattle.session_meaning.specs.declared.fault.ApplyFault.{ApplyFault}
 use Rattle.session_meaning.specs.declared.fault.ApplyFault.TheVariants.{Refused, GroupNodes, GroupSwitches, WriteFault, NoMemory}
 use Rattle.session_meaning.specs.Sessions.{SessionData, HeldSession, ClockData, places_of}
 use Rattle.told_lines.specs.Lines.{Line, Told, Wave}
-use Rattle.session_meaning.specs.Effects.{RunEffect, IsPhase, AreBeats, moved_to, places_in, states_by}
+use Rattle.session_meaning.specs.Effects.{RunEffect, moved_to, places_in, states_by}
 use Rattle.session_meaning.specs.Outcomes.{Accepts, Refuses, RefusesSize, Stays, Begins, Outcome}
 use Rattle.session_meaning.specs.Preparing.{IsBuild}
 
@@ -155,27 +154,11 @@ pub record Readied {M : Type 0} (did : Act → M → M → Type 0) (old new : He
   pub analysed : told ≡ asked ++ texts
   pub built : did (Built old.core.large old.core.circuit.graph) old.stage new.stage
 
--- a build ran out of memory: all is as before, but that a prefix of the texts that it analyses may be kept
-pub record CutOff {M : Type 0} (old new : HeldSession M) (asked told : List GroupTextData) : Type 0 where
-  pub core : new.core ≡ record old.core { kept = new.core.kept }
-  pub stage : new.stage ≡ old.stage
-  pub cut_off : IsCutOff old.core.large old.core.circuit.graph old.core.kept new.core.kept asked told
-
 -- the circuit can't be built: the first group that is too large is told, and all is as before
 pub record TooLarge {M : Type 0} (old new : HeldSession M) (asked told : List GroupTextData) (fault : BuildFault) : Type 0 where
   pub first : TellsRefused old.core.large old.core.circuit.graph fault
   pub same : new ≡ old
   pub unasked : told ≡ asked
-
--- what making a session ready for unit steps comes to
-abbrev pub Readies : {M : Type 0} → (Act → M → M → Type 0) → HeldSession M → HeldSession M → List GroupTextData → List GroupTextData →
-    Result (Unit {0}) ApplyFault → Type 0
-Readies did old new asked told (Ok _) = Readied did old new asked told
-Readies did old new asked told (Err (Refused refusal)) = ⊥
-Readies did old new asked told (Err (GroupNodes node count)) = TooLarge old new asked told (build.GroupNodes node count)
-Readies did old new asked told (Err (GroupSwitches node count)) = TooLarge old new asked told (build.GroupSwitches node count)
-Readies did old new asked told (Err WriteFault) = ⊥
-Readies did old new asked told (Err NoMemory) = CutOff old new asked told
 
 -- a build ran out of memory: all is as before, but for the texts that it may have analysed, and that are kept, as the stage says
 pub record CutOffBy {M : Type 0} (cuts : ℕ → GraphData → Option ℕ → List GroupTextData → List GroupTextData → List GroupTextData → List GroupTextData → Type 0)
@@ -184,7 +167,7 @@ pub record CutOffBy {M : Type 0} (cuts : ℕ → GraphData → Option ℕ → Li
   pub stage : new.stage ≡ old.stage
   pub cut_off : cuts old.core.large old.core.circuit.graph old.core.bound old.core.kept new.core.kept asked told
 
--- what making a session over any stage ready comes to
+-- what making a session ready for unit steps comes to
 abbrev pub ReadiesBy : {M : Type 0} → (ℕ → GraphData → Option ℕ → List GroupTextData → List GroupTextData → List GroupTextData → List GroupTextData → Type 0) →
     (Act → M → M → Type 0) → HeldSession M → HeldSession M → List GroupTextData → List GroupTextData → Result (Unit {0}) ApplyFault → Type 0
 ReadiesBy cuts did old new asked told (Ok _) = Readied did old new asked told
@@ -214,24 +197,3 @@ pub record IsSettled (old new : SessionData) (steps : ℕ) (joined : Bool) : Typ
   pub next : List Tern
   pub settles : Settles old.circuit.graph old.state old.limit next steps joined
   pub moved : new ≡ moved_to old next
-
--- a phase was done on the stage
-pub record PhaseOn {M : Type 0} (did : Act → M → M → Type 0) (old new : HeldSession M) : Type 0 where
-  pub lines : List Line
-  pub phase : IsPhase old.core new.core lines
-  pub act : Act
-  pub rests : RestsBy old.core.circuit.graph old.core.limit lines act
-  pub done : did act old.stage new.stage
-
--- phases at these places were done on the stage
-pub record BeatsOn {M : Type 0} (did : Act → M → M → Type 0) (places : List ℕ) (old new : HeldSession M) : Type 0 where
-  pub lines : List Line
-  pub beats : AreBeats old.core places new.core lines
-  pub acts : List Act
-  pub are : AreBeatActs old.core.circuit.graph old.core.limit old.core.clocks places lines acts
-  pub leads : Leads did old.stage acts new.stage
-
--- behind phases at any places those at these were done on the stage
-abbrev pub BeatsGoOn : {M : Type 0} → (Act → M → M → Type 0) → List ℕ → HeldSession M → HeldSession M → Type 0
-BeatsGoOn {M} did places old new =
-    (start : HeldSession M) (done : List ℕ) → BeatsOn did done start old → BeatsOn did (done ++ places) start new

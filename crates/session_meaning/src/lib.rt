@@ -19,8 +19,8 @@
 //! done keeps the data ready. They cite `BeatLemmas`, `ClockLemmas`, `EditLemmas`, `LeavingLemmas`, `LineLemmas`,
 //! `OutcomeLemmas`, `PassExistence`, `PassingLemmas`, `RefusalLemmas`, `SizeLemmas`, `StateLemmas`, `UniqueBuilds` and
 //! `UniqueEffects` too, and of columns `BeatRowLemmas`, `ColumnLemmas`, `LetterLemmas` and `RowLemmas`; their heads say what they are of.
-//! `cosmos_session` cites the others: `ActLemmas`, `BackLemmas`, `BuildLemmas`, `InAllLemmas`, `MoveLemmas`, `SaveLemmas`, `StartLemmas`,
-//! `StayingLemmas` and `UndoLemmas`.
+//! `cosmos_session` cites the others: `ActLemmas`, `BackLemmas`, `BuildLemmas`, `InAllLemmas`, `MoveLemmas`, `OneColumnLemmas`, `SaveLemmas`,
+//! `StartLemmas`, `StayingLemmas` and `UndoLemmas`.
 //!
 //! After Bryant, "A Switch-Level Model and Simulator for MOS Digital Systems", 1984, and Bryant, Beatty,
 //! Brace, Cho and Sheffler, "COSMOS: A Compiled Simulator for MOS Circuits", 1987.
