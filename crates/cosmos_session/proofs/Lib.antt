@@ -1,4 +1,4 @@
 mod ItemLemmas
 mod LetterLemmas
 mod ShowingLemmas
-mod UnreadyLemmas
+mod StageLemmas

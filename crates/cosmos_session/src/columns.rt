@@ -1,6 +1,6 @@
 //! Commands for columns: what is done in each column, by the letters that it is given, and the commands that take no step.
 
-ghost use Rattle.std.specs.Prelude.{◌≡◌, ◌<◌, ◌≤◌, ℕ, List, [], is_some, true, map, None, All, IfErr, IfOk, OnOk};
+ghost use Rattle.std.specs.Prelude.{◌≡◌, ◌<◌, ◌≤◌, ℕ, List, [], is_some, true, map, None, All, IfErr, IfOk, OnErr, OnOk};
 ghost use Rattle.switch_paths.specs.Graphs.{nodes};
 ghost use Rattle.switch_paths.specs.declared.TheConstants.{RAILS};
 ghost use Rattle.netlist.specs.Words.{node_of, node_named};
@@ -10,30 +10,32 @@ ghost use Rattle.script_lang.specs.declared.command.Command.TheVariants as famil
 ghost use Rattle.column_script.specs.declared.command.ColumnCommand.TheVariants.{Shared, Values};
 ghost use Rattle.column_script.specs.Commands.{IsShared, IsSharedSetup, alone_of, in_column, value_in};
 ghost use Rattle.column_script.specs.Forms.{IsFormed};
-ghost use Rattle.column_stage.specs.Acts.{Leads, Placed};
+ghost use Rattle.column_stage.specs.Acts.{Leads, LeadsBy, Placed};
 ghost use Rattle.column_stage.specs.Columns.{AreSound, IsLetters};
-ghost use Rattle.session_meaning.specs.Columns.{ObeysInAll, QuietlyInAll, acts_of_letters, column_of};
+ghost use Rattle.session_meaning.specs.Columns.{ObeysInAll, ObeysInAllOn, QuietlyInAll, acts_of_letters, column_of};
 ghost use Rattle.session_meaning.specs.Preparing.{IsFaultFor, NamesNode};
 ghost use Rattle.session_meaning.specs.Refusals.{refusal_of};
 ghost use Rattle.session_meaning.specs.Sessions.{IsHeldSession, start_of};
 ghost use Rattle.session_meaning.specs.Sinks.{faults_applied};
+ghost use Rattle.session_meaning.specs.Stages.{IsEditing, IsStill};
 ghost use Rattle.cosmos_session.specs.Targets.{target_of};
 
 use crate::session::Session;
 use crate::values::Target;
 use analysis_cache::{Analyst, Kept};
 use column_script::{ColumnCommand, ValueCommand};
-use column_stage::{ColumnStage, Stage};
+use column_stage::{ColumnStage, Columns, Stage};
 use netlist::{Circuit, RAILS};
 use node_words::Vectors;
 use script_lang::{ClockList, Command, Edit, Name, Setup, StateList, Value, ValueList};
 use session_meaning::{ApplyFault, FIRST_LIMIT};
+use settling::Blind;
 use std::alloc::Global;
 use switch_paths::Graph;
 use ternary::{NoMemory, Tern};
 use told_lines::Lines;
 
-impl<M: ColumnStage> Session<M> {
+impl<M: Columns> Session<M> {
     /// A session at its start over a stage whose columns are at theirs: in each Gnd is 0, Vdd is 1 and every other node X.
     pub fn over(alloc: Global, circuit: Circuit, stage: M) -> Session<M>
         requires some { 1 ≤ M.columns stage }
@@ -63,7 +65,9 @@ impl<M: ColumnStage> Session<M> {
             fresh: 0,
         }
     }
+}
 
+impl<M: ColumnStage> Session<M> {
     /// How many columns there are.
     pub fn columns(&self) -> u32
         ensures value { result ≡ M.columns self.now.stage }
@@ -83,6 +87,8 @@ impl<M: ColumnStage> Session<M> {
     /// A fault of the hearer ends the command: then a prefix of the lines was heard, and each column is as after a
     /// whole part of the command. Lack of memory of the hearer is alike. Lack of memory of any other kind changes
     /// nothing but what is kept: all memory is taken before the first unit step, a build last of all.
+    ///
+    /// What is done to the stage is told act by act, as a plain session tells it.
     pub fn apply_columns<A: Analyst, L: Lines>(
         &mut self,
         command: &ColumnCommand,
@@ -91,6 +97,8 @@ impl<M: ColumnStage> Session<M> {
     ) -> Result<(), ApplyFault>
         requires { IsFormed (M.columns self.old.stage) command.now }
         ensures obeys { ObeysInAll M.cuts L.hear L.part (M.columns self.old.stage) (column_of M.states self.old) command.now (column_of M.states self.new)
+            (L.heard out.old) (L.heard out.new) (A.analysed analyst.old) (A.analysed analyst.new) (L.refusals out.old) (L.refusals out.new) result }
+        ensures stage { ObeysInAllOn M.cuts L.hear L.part M.columns M.states M.did self.old command.now self.new
             (L.heard out.old) (L.heard out.new) (A.analysed analyst.old) (A.analysed analyst.new) (L.refusals out.old) (L.refusals out.new) result }
         ensures faults { L.faults out.new ≡ faults_applied (L.faults out.old) result }
         ensures columns { M.columns self.new.stage ≡ M.columns self.old.stage }
@@ -113,7 +121,7 @@ impl<M: ColumnStage> Session<M> {
     ) -> Result<(), ApplyFault>
         requires formed { IsFormed (M.columns self.old.stage) command.now }
         requires session { IsHeldSession M.columns M.states M.serves self.old }
-        ensures obeys { ObeysInAll M.cuts L.hear L.part (M.columns self.old.stage) (column_of M.states self.old) command.now (column_of M.states self.new)
+        ensures obeys { ObeysInAllOn M.cuts L.hear L.part M.columns M.states M.did self.old command.now self.new
             (L.heard out.old) (L.heard out.new) (A.analysed analyst.old) (A.analysed analyst.new) (L.refusals out.old) (L.refusals out.new) result }
         ensures faults { L.faults out.new ≡ faults_applied (L.faults out.old) result }
         ensures columns { M.columns self.new.stage ≡ M.columns self.old.stage }
@@ -133,7 +141,7 @@ impl<M: ColumnStage> Session<M> {
     ) -> Result<(), ApplyFault>
         requires formed { form.IsFormed command.now × IsShared command.now }
         requires session { IsHeldSession M.columns M.states M.serves self.old }
-        ensures obeys { ObeysInAll M.cuts L.hear L.part (M.columns self.old.stage) (column_of M.states self.old) (Shared command.now) (column_of M.states self.new)
+        ensures obeys { ObeysInAllOn M.cuts L.hear L.part M.columns M.states M.did self.old (Shared command.now) self.new
             (L.heard out.old) (L.heard out.new) (A.analysed analyst.old) (A.analysed analyst.new) (L.refusals out.old) (L.refusals out.new) result }
         ensures faults { L.faults out.new ≡ faults_applied (L.faults out.old) result }
         ensures columns { M.columns self.new.stage ≡ M.columns self.old.stage }
@@ -141,7 +149,7 @@ impl<M: ColumnStage> Session<M> {
         match command {
             Command::Edit(edit) => self.edit_columns(edit),
             Command::Setup(setup) => self.set_up_columns(setup),
-            Command::Run(run) => self.run_columns(run, analyst, out),
+            Command::Run(run) => self.run_columns(run, analyst, out, &mut Blind {}),
             Command::Give(_) | Command::Tell(_) => unreachable!(),
         }
     }
@@ -149,6 +157,8 @@ impl<M: ColumnStage> Session<M> {
     // An edit of the circuit. Each node that is new is X in each column.
     fn edit_columns(&mut self, edit: &Edit) -> Result<(), ApplyFault>
         ensures quiet { QuietlyInAll (M.columns self.old.stage) (column_of M.states self.old) (Shared (family.Edit edit.now)) (column_of M.states self.new) result }
+        ensures stage { OnOk result (LeadsBy M.did IsEditing self.old.stage self.new.stage) }
+        ensures still { OnErr result (IsStill M.did self.old.stage self.new.stage) }
         ensures columns { M.columns self.new.stage ≡ M.columns self.old.stage }
     {
         let done = self.edit(edit);
@@ -160,6 +170,7 @@ impl<M: ColumnStage> Session<M> {
     fn set_up_columns(&mut self, setup: &Setup) -> Result<(), ApplyFault>
         requires { form.IsFormedSetup setup.now × IsSharedSetup setup.now }
         ensures quiet { QuietlyInAll (M.columns self.old.stage) (column_of M.states self.old) (Shared (family.Setup setup.now)) (column_of M.states self.new) result }
+        ensures stage { self.new.stage ≡ self.old.stage }
         ensures columns { M.columns self.new.stage ≡ M.columns self.old.stage }
     {
         self.set_up_alike(setup)
@@ -169,6 +180,8 @@ impl<M: ColumnStage> Session<M> {
     fn give_letters(&mut self, kind: ValueCommand, list: &ClockList) -> Result<(), ApplyFault>
         requires formed { IsFormed (M.columns self.old.stage) (Values kind list.now) }
         ensures quiet { QuietlyInAll (M.columns self.old.stage) (column_of M.states self.old) (Values kind list.now) (column_of M.states self.new) result }
+        ensures stage { OnOk result (Leads M.did self.old.stage (acts_of_letters self.old.core.circuit list.now) self.new.stage) }
+        ensures still { OnErr result (self.new.stage ≡ self.old.stage) }
         ensures columns { M.columns self.new.stage ≡ M.columns self.old.stage }
     {
         self.allow_letters(kind, list)?;
@@ -213,8 +226,8 @@ fn first_values(alloc: Global, list: &[(Name, StateList)]) -> Result<ValueList, 
     Ok(values)
 }
 
-// Which nodes a command gives letters.
-fn target_of(kind: ValueCommand) -> Target
+/// Which nodes a command gives letters.
+pub(crate) fn target_of(kind: ValueCommand) -> Target
     ensures { result ≡ target_of kind }
 {
     match kind {

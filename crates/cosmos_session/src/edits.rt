@@ -17,13 +17,13 @@ use crate::naming::all_nodes;
 use crate::placing::{edit_stage, take_room};
 use crate::refusals;
 use crate::session::Session;
-use column_stage::Stage;
+use column_stage::Columns;
 use netlist::{Circuit, EditFault, RAILS, usual_strength};
 use script_lang::{Edit, Name, NameList};
 use session_meaning::{ApplyFault, Refusal, SwitchEdit};
 use switch_paths::SwitchKind;
 
-impl<M: Stage> Session<M> {
+impl<M: Columns> Session<M> {
     /// Does an edit.
     pub(crate) fn edit(&mut self, edit: &Edit) -> Result<(), ApplyFault>
         ensures quiet { Quietly self.old.core (family.Edit edit.now) self.new.core result }

@@ -18,7 +18,7 @@ ghost use Rattle.cosmos_session.specs.Targets.{target_at};
 use crate::placing::put_node;
 use crate::session::Session;
 use crate::values::{Target, all_states, place_refusal};
-use column_stage::{PlainStage, Stage};
+use column_stage::{Columns, PlainStage};
 use netlist::{Circuit, RAILS};
 use script_lang::{Give, ValueList};
 use session_meaning::ApplyFault;
@@ -73,7 +73,7 @@ impl<M: PlainStage> Session<M> {
     }
 }
 
-impl<M: Stage> Session<M> {
+impl<M: Columns> Session<M> {
     /// The states that these assignments give nodes, from left to right.
     pub(crate) fn states_for(
         &self,

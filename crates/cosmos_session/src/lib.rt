@@ -16,7 +16,12 @@
 //! A session over a stage of columns, `Session::over`, does the commands of a script for columns, `Session::apply_columns`:
 //! each column gets its letters, and is then told as the session of a plain script would tell it, waveform line by waveform
 //! line in the order of the columns. What a plain session does that a row of columns can't tell, `expect` and `report`, isn't
-//! there for columns.
+//! there for columns. Unit steps, phases and cycles are done in all columns by the same calls, also where there is one.
+//!
+//! A session over a stage that may run out, as a symbolic script has one, does in all columns at once what a line asks for that
+//! tells nothing: `edit_in_all`, `set_up_in_all`, `give_in_all`; and what the lines do that move: `ready_in_all`, `beat_in_all`,
+//! `step_in_all`, `settle_in_all`. If the stage runs out, it says why, and the session is one still. `work_on_stage` has more made
+//! there of what nodes can be given.
 //!
 //! ```text
 //! let mut session = Session::<MachineStage>::new(alloc, circuit)?;
@@ -38,13 +43,13 @@ mod preparing;
 mod putting;
 mod refusals;
 mod reporting;
-mod rows;
+mod running;
 mod saving;
 mod session;
 mod setting;
 mod showing;
-mod stepping;
 mod telling;
+mod truths;
 mod values;
 mod waves;
 

@@ -18,7 +18,7 @@ ghost use Rattle.session_meaning.specs.Stages.{IsEditing};
 use analysis_cache::{Analyst, Kept};
 use channel_groups::Change;
 use circuit_texts::BuildFault;
-use column_stage::{PlainStage, Stage};
+use column_stage::{Columns, PlainStage, Stage};
 use std::alloc::Global;
 use switch_paths::Graph;
 use ternary::{NoMemory, Tern};
@@ -47,7 +47,7 @@ pub(crate) fn put_in_all<M: Stage>(graph: &Graph, node: usize, letter: Tern, sta
     requires inside { node < nodes graph.now }
     requires no_rail { RAILS ≤ node }
     ensures columns { M.columns stage.new ≡ M.columns stage.old }
-    ensures state { M.states stage.new 0 ≡ slice_set (M.states stage.old 0) node letter }
+    ensures states { (column : ℕ) → column < M.columns stage.old → M.states stage.new column ≡ slice_set (M.states stage.old column) node letter }
     ensures sound { AreSound graph.now (M.columns stage.new) (M.states stage.new) }
     ensures last { M.last stage.new ≡ M.last stage.old }
     ensures serves { (kept : List GroupTextData) → M.serves stage.old graph.now kept → M.serves stage.new graph.now kept }
@@ -58,7 +58,7 @@ pub(crate) fn put_in_all<M: Stage>(graph: &Graph, node: usize, letter: Tern, sta
 }
 
 /// Takes room for the states of as many new nodes as one edit makes at most.
-pub(crate) fn take_room<M: Stage>(stage: &mut M) -> Result<(), NoMemory>
+pub(crate) fn take_room<M: Columns>(stage: &mut M) -> Result<(), NoMemory>
     requires { 1 ≤ M.columns stage.old }
     ensures room { OnOk result (NEW_NODES ≤ M.spare stage.new) }
     ensures columns { M.columns stage.new ≡ M.columns stage.old }
@@ -72,7 +72,7 @@ pub(crate) fn take_room<M: Stage>(stage: &mut M) -> Result<(), NoMemory>
 }
 
 /// Tells the stage, which served the graph before, of an edit of the graph: each new node is X, in room that is there.
-pub(crate) fn edit_stage<M: Stage>(
+pub(crate) fn edit_stage<M: Columns>(
     alloc: Global,
     graph: &Graph,
     change: &Change,
@@ -96,8 +96,8 @@ pub(crate) fn edit_stage<M: Stage>(
     stage.edit(alloc, graph, change, kept);
 }
 
-/// Gets what takes steps of the graph, as `Stage::build` does.
-pub(crate) fn build_stage<M: Stage, A: Analyst>(
+/// Gets what takes steps of the graph, as `Columns::build` does.
+pub(crate) fn build_stage<M: Columns, A: Analyst>(
     alloc: Global,
     graph: &Graph,
     large: usize,

@@ -9,7 +9,7 @@ ghost use Rattle.session_meaning.specs.declared.fault.Refusal.TheVariants.{Clock
 
 use netlist::{Circuit, RAILS};
 use node_words::{Named, Vectors};
-use script_lang::{Name, StateList};
+use script_lang::{Name, Run, StateList};
 use session_meaning::{Clock, Refusal};
 use strength_order::INPUT_LEVEL;
 
@@ -90,6 +90,19 @@ fn clock_nodes_refusal(circuit: &Circuit, list: &[(Name, StateList)]) -> Option<
         }
     }
     None
+}
+
+/// Why a command that has the circuit built is refused, by the data alone.
+pub(crate) fn run_refusal(run: &Run, circuit: &Circuit, clocks: &[Clock]) -> Option<Refusal>
+    requires { All (λ clock. clock.node < nodes circuit.now.graph) clocks.now }
+    ensures { result ≡ spec.refusal_of_run circuit.now clocks.now run.now }
+{
+    match run {
+        Run::Step => None,
+        Run::Phase => None,
+        Run::Cycle(_) => cycle_refusal(circuit, clocks),
+        Run::Report => None,
+    }
 }
 
 /// The first refusal of a cycle of these clocks: none were accepted, or a node is no input node any

@@ -1,15 +1,16 @@
 //! Reports: how many groups and texts there are, and how many texts were new.
 
-ghost use Rattle.std.specs.Prelude.{◌≡◌, ◌≤◌, ◌+◌, List, IfErr};
+ghost use Rattle.std.specs.Prelude.{◌≡◌, ◌≤◌, ◌+◌, List, IfErr, OnOk};
 ghost use Rattle.group_text.specs.Texts.{GroupTextData};
 ghost use Rattle.circuit_texts.specs.Building.{HasTexts};
 ghost use Rattle.printed_lines.specs.declared.lines.TheConstants.{COLUMN_ROOM, REPORT_LINE_ROOM};
 ghost use Rattle.script_lang.specs.declared.command.Command.TheVariants as family;
 ghost use Rattle.script_lang.specs.declared.command.Run.TheVariants as asked;
+ghost use Rattle.column_script.specs.declared.command.ColumnCommand.TheVariants.{Shared};
+ghost use Rattle.session_meaning.specs.Columns.{ObeysInAllOn};
 ghost use Rattle.session_meaning.specs.Effects.{IsReported};
 ghost use Rattle.session_meaning.specs.Sinks.{IsSinkFault, faults_applied, refusals_sent};
 ghost use Rattle.session_meaning.specs.Outcomes.{IsDoneAndSent};
-ghost use Rattle.session_meaning.specs.Stages.{ObeysOn};
 
 use crate::session::Session;
 use crate::waves::tell_line;
@@ -22,18 +23,19 @@ use told_lines::{Line, Lines};
 impl<M: PlainStage> Session<M> {
     /// `report`: a line with the numbers of groups, of distinct texts, and of texts that were analysed
     /// since the last report.
-    #[tactic(auto, using(session_meaning::proofs::OutcomeLemmas::stopped_obeys))]
     pub(crate) fn report<A: Analyst, L: Lines>(
         &mut self,
         analyst: &mut A,
         out: &mut L,
     ) -> Result<(), ApplyFault>
-        ensures obeys { ObeysOn L.hear L.part M.did self.old (family.Run asked.Report) self.new (L.heard out.old) (L.heard out.new)
-            (A.analysed analyst.old) (A.analysed analyst.new) (L.refusals out.old) (L.refusals out.new) result }
+        ensures obeys { ObeysInAllOn M.cuts L.hear L.part M.columns M.states M.did self.old (Shared (family.Run asked.Report)) self.new
+            (L.heard out.old) (L.heard out.new) (A.analysed analyst.old) (A.analysed analyst.new) (L.refusals out.old) (L.refusals out.new) result }
         ensures faults { L.faults out.new ≡ faults_applied (L.faults out.old) result }
+        ensures state { OnOk result (self.new.core.state ≡ self.old.core.state) }
     {
         out.reserve(COLUMN_ROOM + REPORT_LINE_ROOM)?;
-        self.prepare(analyst)?;
+        self.make_ready(analyst)?;
+        self.is_well_formed();
         self.tell_report(out)
     }
 

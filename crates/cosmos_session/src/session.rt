@@ -1,6 +1,7 @@
 //! The data of a session, and what each command does to them.
 
-ghost use Rattle.std.specs.Prelude.{◌≡◌, not, None, IfOk, IfErr, OnOk};
+ghost use Rattle.std.specs.Prelude.{◌≡◌, not, [], None, IfOk, IfErr, OnOk};
+ghost use Rattle.group_analysis.specs.Using.{used_texts};
 ghost use Rattle.analysis_cache.specs.Keeping.{texts_of};
 ghost use Rattle.script_lang.specs.Forms.{IsFormed};
 ghost use Rattle.session_meaning.specs.Sessions.{start_of, IsHeldSession};
@@ -11,7 +12,7 @@ ghost use Rattle.session_meaning.specs.Outcomes.{Obeys};
 ghost use Rattle.session_meaning.specs.Stages.{ObeysOn};
 
 use analysis_cache::{Analyst, Kept};
-use column_stage::{PlainStage, Stage};
+use column_stage::{Columns, PlainStage};
 use netlist::Circuit;
 use node_words::Vectors;
 use script_lang::{Command, Name, StateList};
@@ -31,7 +32,7 @@ use told_lines::Lines;
 /// Beside these data contracts see the stage that moves the state, whatever it is: what it is built of comes at the
 /// first command that wants it, and lives through edits of the circuit.
 #[derive(Drop)]
-pub struct Session<M: Stage> {
+pub struct Session<M: Columns> {
     pub(crate) alloc: Global,
     pub(crate) circuit: Circuit,
     pub(crate) stage: M,
@@ -47,7 +48,7 @@ pub struct Session<M: Stage> {
     pub(crate) fresh: u64,
 }
 
-impl<M: Stage> Model for Session<M> {
+impl<M: Columns> Model for Session<M> {
     ghost use Rattle.group_analysis.specs.Using.{used_texts};
     ghost use Rattle.analysis_cache.specs.Keeping.{texts_of};
     ghost use Rattle.column_stage.specs.Columns.{AreAmong};
@@ -61,7 +62,7 @@ impl<M: Stage> Model for Session<M> {
         × AreAmong (M.last session.stage) (texts_of session.kept) };
 }
 
-impl<M: Stage> Session<M> {
+impl<M: Columns> Session<M> {
     /// The circuit, as edited so far.
     pub fn circuit(&self) -> &Circuit
         ensures value { result.now ≡ self.now.core.circuit }
@@ -134,13 +135,26 @@ impl<M: PlainStage> Session<M> {
         ensures starts { IfOk result (λ session. M.starts session.stage) }
     {
         let state = first_states(alloc, &circuit)?;
+        Ok(Self::over_stage(alloc, circuit, kept, M::still(state)))
+    }
+
+    // A session at its start over a stage at its own, which keeps these, without a bound.
+    fn over_stage(alloc: Global, circuit: Circuit, kept: Kept, stage: M) -> Session<M>
+        requires bound { kept.bound ≡ None }
+        requires one { M.columns stage ≡ 1 }
+        requires state { M.states stage 0 ≡ (start_of circuit).state }
+        requires last { M.last stage ≡ [] }
+        requires serves { M.serves stage circuit.graph (used_texts (M.last stage) (texts_of kept)) }
+        ensures core { result.core ≡ record (start_of circuit) { kept = texts_of kept } }
+        ensures stage { result.stage ≡ stage }
+    {
         // For the proof alone: a circuit's graph is well formed.
         let _graph = circuit.graph();
         let vectors = Vectors::new(alloc, circuit.keys());
-        Ok(Session {
+        Session {
             alloc,
             circuit,
-            stage: M::still(state),
+            stage,
             watched: Vec::new(alloc),
             clocks: Vec::new(alloc),
             limit: FIRST_LIMIT,
@@ -151,10 +165,11 @@ impl<M: PlainStage> Session<M> {
             kept,
             large: 0,
             fresh: 0,
-        })
+        }
     }
 
-    /// A session at its start over another circuit, in which what this one keeps is kept still, without a bound.
+    /// A session at its start over another circuit, in which what this one keeps is kept still, without a bound. Its stage may hold on to what
+    /// this one's has.
     /// Out of memory both are dropped.
     pub fn restart(self, circuit: Circuit) -> Result<Session<M>, NoMemory>
         ensures core { IfOk result (λ session. session.core ≡ record (start_of circuit) { kept = self.core.kept }) }
@@ -168,7 +183,9 @@ impl<M: PlainStage> Session<M> {
         } = self;
         stage.use_last(&mut kept);
         kept.set_bound(None);
-        Self::start(alloc, circuit, kept)
+        let state = first_states(alloc, &circuit)?;
+        let again = stage.again(state);
+        Ok(Self::over_stage(alloc, circuit, kept, again))
     }
 
     /// The state of each node.

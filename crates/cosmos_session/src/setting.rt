@@ -13,7 +13,7 @@ ghost use Rattle.session_meaning.specs.Outcomes.{Quietly};
 use crate::naming::few_nodes;
 use crate::refusals;
 use crate::session::Session;
-use column_stage::{PlainStage, Stage};
+use column_stage::{Columns, PlainStage};
 use netlist::Circuit;
 use script_lang::{ClockList, Name, NameList, Setup, StateList};
 use session_meaning::{ApplyFault, Clock, MOST_WATCHED, Refusal};
@@ -39,7 +39,7 @@ impl<M: PlainStage> Session<M> {
     }
 }
 
-impl<M: Stage> Session<M> {
+impl<M: Columns> Session<M> {
     /// Sets what later commands go by, which is the same in all columns.
     pub(crate) fn set_up_alike(&mut self, setup: &Setup) -> Result<(), ApplyFault>
         requires { IsFormedSetup setup.now × IsSharedSetup setup.now }

@@ -45,36 +45,6 @@ impl WaveRoom {
         })
     }
 
-    /// Tells the waveform line with this number, of so many steps, with the states of these nodes.
-    pub(crate) fn tell<L: Lines>(
-        &mut self,
-        n: u64,
-        k: u64,
-        mark: bool,
-        state: &[Tern],
-        nodes: &[usize],
-        out: &mut L,
-    ) -> Result<(), ApplyFault>
-        requires room { length nodes.now ≤ self.old }
-        requires line { COLUMN_ROOM + WAVE_LINE_ROOM ≤ L.room out.old }
-        requires few { length nodes.now ≤ MOST_WATCHED }
-        requires within { All (λ node. node < length state.now) nodes.now }
-        ensures room { self.new ≡ self.old }
-        ensures line { L.room out.new ≡ L.room out.old }
-        ensures sent { Sent L.hear L.part (L.heard out.old) (L.heard out.new) (Wave n k mark (map (state_at state.now) nodes.now) ∷ []) result }
-        ensures cause { IfErr result IsSinkFault }
-        ensures faults { L.faults out.new ≡ faults_applied (L.faults out.old) result }
-        ensures refusals { L.refusals out.new ≡ refusals_sent (L.refusals out.old) result }
-    {
-        push_states(&mut self.values, state, nodes);
-        let values = &self.values;
-        let told = tell_line(Line::Wave { n, k, mark, values }, out);
-        self.values.clear();
-        told
-    }
-}
-
-impl WaveRoom {
     /// Tells the line of a name that is shown, with the states of these nodes.
     pub(crate) fn show<L: Lines>(
         &mut self,

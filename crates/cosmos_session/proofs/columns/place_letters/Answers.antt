@@ -64,17 +64,17 @@ loop-name-preserved g c =
     let within : place < length list = omega arith in
     let named : node_named circuit item.0 ≡ node =
     node_found circuit item.0 c.items.result.now c.find.result node c.items.ensures c.find.ensures.value c.unwrap-node.ensures in
-    let placed : g.M.Stage.did (Placed circuit.graph node item.1) c.loop-name.stage c.place_node.new.stage =
+    let placed : g.M.Columns.did (Placed circuit.graph node item.1) c.loop-name.stage c.place_node.new.stage =
     rw (c.graph.ensures.value, c.items-in-loop-name.ensures) at c.place_node.ensures.did in
-    let did : g.M.Stage.did (Placed circuit.graph (node_named circuit item.0) item.1) c.loop-name.stage c.place_node.new.stage =
-    subst (λ (n : ℕ). g.M.Stage.did (Placed circuit.graph n item.1) c.loop-name.stage c.place_node.new.stage) (sym named) placed in
+    let did : g.M.Columns.did (Placed circuit.graph (node_named circuit item.0) item.1) c.loop-name.stage c.place_node.new.stage =
+    subst (λ (n : ℕ). g.M.Columns.did (Placed circuit.graph n item.1) c.loop-name.stage c.place_node.new.stage) (sym named) placed in
     record {
       columns = c.place_node.ensures.columns ∙ c.loop-name.invariant.columns;
       sound = rw c.graph.ensures.value at c.place_node.ensures.sound;
       last = c.place_node.ensures.last ∙ c.loop-name.invariant.last;
       serves = λ kept serving. (rw c.graph.ensures.value at c.place_node.ensures.serves) kept (c.loop-name.invariant.serves kept serving);
       did = λ end rest. c.loop-name.invariant.did end
-          (subst (λ (acts : List Act). Leads g.M.Stage.did c.loop-name.stage acts end)
+          (subst (λ (acts : List Act). Leads g.M.Columns.did c.loop-name.stage acts end)
           (sym (acts_next (λ (one : List ℕ × List Tern). Placed circuit.graph (node_named circuit one.0) one.1) list place item within c.loop-name-item.is))
           (c.place_node.new.stage, did, rest));
     }
@@ -83,5 +83,5 @@ pub returns-clause-did : goal.returns-clause-did
 returns-clause-did g c =
     let circuit = c.args.circuit.now in
     c.loop-name.invariant.did c.loop-name.stage
-    (subst (λ (left : List (List ℕ × List Tern)). Leads g.M.Stage.did c.loop-name.stage (acts_of_letters circuit left) c.loop-name.stage)
+    (subst (λ (left : List (List ℕ × List Tern)). Leads g.M.Columns.did c.loop-name.stage (acts_of_letters circuit left) c.loop-name.stage)
     (sym (drop_all c.loop-name.name-index c.args.list.now (omega arith))) refl)

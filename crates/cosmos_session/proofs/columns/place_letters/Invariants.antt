@@ -8,10 +8,10 @@ use Rattle.cosmos_session.proofs.columns.place_letters.Given as goal
 
 abbrev pub invariant-loop-name : goal.invariant-loop-name
 invariant-loop-name g l = record {
-  columns : g.M.Stage.columns l.stage ≡ g.M.Stage.columns l.fn.stage;
-  sound : AreSound l.circuit.graph (g.M.Stage.columns l.stage) (g.M.Stage.states l.stage);
-  last : g.M.Stage.last l.stage ≡ g.M.Stage.last l.fn.stage;
-  serves : (kept : List GroupTextData) → g.M.Stage.serves l.fn.stage l.circuit.graph kept → g.M.Stage.serves l.stage l.circuit.graph kept;
-  did : (end : _) → Leads g.M.Stage.did l.stage (acts_of_letters l.circuit (drop l.name-index l.list)) end →
-      Leads g.M.Stage.did l.fn.stage (acts_of_letters l.circuit l.list) end;
+  columns : g.M.Columns.columns l.stage ≡ g.M.Columns.columns l.fn.stage;
+  sound : AreSound l.circuit.graph (g.M.Columns.columns l.stage) (g.M.Columns.states l.stage);
+  last : g.M.Columns.last l.stage ≡ g.M.Columns.last l.fn.stage;
+  serves : (kept : List GroupTextData) → g.M.Columns.serves l.fn.stage l.circuit.graph kept → g.M.Columns.serves l.stage l.circuit.graph kept;
+  did : (end : _) → Leads g.M.Columns.did l.stage (acts_of_letters l.circuit (drop l.name-index l.list)) end →
+      Leads g.M.Columns.did l.fn.stage (acts_of_letters l.circuit l.list) end;
 }

@@ -6,6 +6,6 @@ use Rattle.cosmos_session.proofs.columns.place_node.Goals as goal
 
 pub returns-clause-sound : goal.returns-clause-sound
 returns-clause-sound g c = λ column inside.
-    let within : column < g.M.Stage.columns c.args.stage.now = subst (λ (n : ℕ). column < n) c.place.ensures.columns inside in
+    let within : column < g.M.Columns.columns c.args.stage.now = subst (λ (n : ℕ). column < n) c.place.ensures.columns inside in
     sound_put c.args.graph.now c.args.node (letter_in column c.args.letters.now) _ _ c.requires.no_rail (c.place.ensures.states column within)
     (c.requires.sound column within)

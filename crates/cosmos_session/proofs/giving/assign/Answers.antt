@@ -36,10 +36,10 @@ loop-node-preserved g c =
     let pair : ℕ × Tern = get_or list place (0, Zero) in
     let inside : place < length list = c.loop-node-test.true in
     let is : pair ≡ get_or list place pair = get_or_default list place (0, Zero) pair inside in
-    let now = g.M.Stage.states c.loop-node.stage 0 in
-    let next = g.M.Stage.states c.put_node.new.stage 0 in
+    let now = g.M.Columns.states c.loop-node.stage 0 in
+    let next = g.M.Columns.states c.put_node.new.stage 0 in
     let set : next ≡ slice_set now pair.0 pair.1 = c.put_node.ensures.state in
-    let did : g.M.Stage.did (Placed graph pair.0 (pair.1 ∷ [])) c.loop-node.stage c.put_node.new.stage = rw c.graph.ensures.value at c.put_node.ensures.did in
+    let did : g.M.Columns.did (Placed graph pair.0 (pair.1 ∷ [])) c.loop-node.stage c.put_node.new.stage = rw c.graph.ensures.value at c.put_node.ensures.did in
     record {
       one = c.put_node.ensures.one;
       state = assigned-more list place pair now next inside is set ∙ c.loop-node.invariant.state;
@@ -47,7 +47,7 @@ loop-node-preserved g c =
       last = c.put_node.ensures.last ∙ c.loop-node.invariant.last;
       serves = λ kept serving. (rw c.graph.ensures.value at c.put_node.ensures.serves) kept (c.loop-node.invariant.serves kept serving);
       did = λ end rest. c.loop-node.invariant.did end
-          (subst (λ (acts : List Act). Leads g.M.Stage.did c.loop-node.stage acts end)
+          (subst (λ (acts : List Act). Leads g.M.Columns.did c.loop-node.stage acts end)
           (sym (acts_next (λ (one : ℕ × Tern). Placed graph one.0 (one.1 ∷ [])) list place pair inside is)) (c.put_node.new.stage, did, rest));
     }
 
@@ -55,5 +55,5 @@ pub returns-clause-did : goal.returns-clause-did
 returns-clause-did g c =
     let graph = c.args.circuit.now.graph in
     c.loop-node.invariant.did c.loop-node.stage
-    (subst (λ (left : List (ℕ × Tern)). Leads g.M.Stage.did c.loop-node.stage (acts_of_states graph left) c.loop-node.stage)
+    (subst (λ (left : List (ℕ × Tern)). Leads g.M.Columns.did c.loop-node.stage (acts_of_states graph left) c.loop-node.stage)
     (sym (drop_all c.loop-node.node-index c.args.states.now (omega arith))) refl)

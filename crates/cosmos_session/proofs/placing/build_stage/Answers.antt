@@ -3,4 +3,4 @@ use Rattle.column_stage.proofs.SoundLemmas.{first_of_some}
 use Rattle.cosmos_session.proofs.placing.build_stage.Goals as goal
 
 pub returns-clause-state : goal.returns-clause-state
-returns-clause-state g c = c.build.ensures.states 0 (first_of_some (g.M.Stage.columns c.args.stage.now) c.requires.some)
+returns-clause-state g c = c.build.ensures.states 0 (first_of_some (g.M.Columns.columns c.args.stage.now) c.requires.some)

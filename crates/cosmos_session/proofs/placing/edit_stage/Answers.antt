@@ -5,7 +5,7 @@ use Rattle.session_meaning.specs.Stages.{IsEditing}
 use Rattle.cosmos_session.proofs.placing.edit_stage.Goals as goal
 
 pub returns-clause-state : goal.returns-clause-state
-returns-clause-state g c = c.edit.ensures.states 0 (first_of_some (g.M.Stage.columns c.args.stage.now) c.requires.some)
+returns-clause-state g c = c.edit.ensures.states 0 (first_of_some (g.M.Columns.columns c.args.stage.now) c.requires.some)
 
 pub returns-clause-did : goal.returns-clause-did
-returns-clause-did g c = leads_by_one g.M.Stage.did IsEditing _ c.args.stage.now c.edit.new.self tt c.edit.ensures.did
+returns-clause-did g c = leads_by_one g.M.Columns.did IsEditing _ c.args.stage.now c.edit.new.self tt c.edit.ensures.did

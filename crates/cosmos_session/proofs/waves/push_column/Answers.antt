@@ -19,7 +19,7 @@ state-requires-clause-node g c = c.requires.within c.loop-node.node-index 0 c.lo
 
 pub loop-node-preserved : goal.loop-node-preserved
 loop-node-preserved g c =
-    let state : List Tern = g.M.Stage.states c.args.stage.now c.args.column in
+    let state : List Tern = g.M.Columns.states c.args.stage.now c.args.column in
     record {
       items = one_more c.args.values.now.items c.loop-node.values.items c.push_reserved.new.self.items c.state.result state c.args.nodes.now
           c.loop-node.node-index c.loop-node-test.true c.loop-node.invariant.items c.push_reserved.ensures.items c.state.ensures;

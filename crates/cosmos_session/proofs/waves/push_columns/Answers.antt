@@ -26,16 +26,16 @@ pub loop-column-preserved : goal.loop-column-preserved
 loop-column-preserved g c =
     let column = c.loop-column.column in
     let nodes : List ℕ = c.args.nodes.now in
-    let now : List Tern = map (state_at (g.M.Stage.states c.args.stage.now column)) nodes in
+    let now : List Tern = map (state_at (g.M.Columns.states c.args.stage.now column)) nodes in
     let before : List Tern = c.loop-column.values.items in
     let after : List Tern = c.push_column.new.values.items in
-    let width : length now ≡ length nodes = length-map nodes (state_at (g.M.Stage.states c.args.stage.now column)) in
+    let width : length now ≡ length nodes = length-map nodes (state_at (g.M.Columns.states c.args.stage.now column)) in
     let lengths : length after ≡ length before + length now =
     ap (λ (items : List Tern). length items) c.push_column.ensures.items ∙ length-append before now in
     record {
       end = c.loop-column.invariant.end;
       count = omega (arith, lengths, width, c.loop-column.invariant.count);
-      each = λ past inside. one_more (length nodes) before now after (λ k. map (state_at (g.M.Stage.states c.args.stage.now k)) nodes) column past
+      each = λ past inside. one_more (length nodes) before now after (λ k. map (state_at (g.M.Columns.states c.args.stage.now k)) nodes) column past
           c.loop-column.invariant.count width c.push_column.ensures.items refl c.loop-column.invariant.each (cases_lt past column) inside;
       capacity = c.push_column.ensures.capacity ∙ c.loop-column.invariant.capacity;
     }

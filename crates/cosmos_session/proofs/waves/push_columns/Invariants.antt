@@ -6,8 +6,8 @@ use Rattle.cosmos_session.proofs.waves.push_columns.Given as goal
 
 abbrev pub invariant-loop-column : goal.invariant-loop-column
 invariant-loop-column g l = record {
-  end : l.column-end ≡ g.M.Stage.columns l.stage;
+  end : l.column-end ≡ g.M.Columns.columns l.stage;
   count : length l.values.items ≡ l.column * length l.nodes;
-  each : (past : ℕ) → past < l.column → values_at (length l.nodes) l.values.items past ≡ map (state_at (g.M.Stage.states l.stage past)) l.nodes;
+  each : (past : ℕ) → past < l.column → values_at (length l.nodes) l.values.items past ≡ map (state_at (g.M.Columns.states l.stage past)) l.nodes;
   capacity : vec_capacity l.values ≡ vec_capacity l.initial.values;
 }

@@ -23,13 +23,13 @@ edit_stage-requires-clause-some g c = c.self.invariant.0.some
 pub edit_stage-requires-clause-before : goal.edit_stage-requires-clause-before
 edit_stage-requires-clause-before g c =
     rw c.graph-in-Ok.ensures.value
-    (asks_edit g.M.Stage.columns g.M.Stage.states g.M.Stage.serves _ c.self.invariant.0 c.edited.new.circuit.graph c.change_of-change.result
-    c.self.inside.stage (g.M.Stage.spare c.self.inside.stage) _ (undone g (goal.at.edit_stage-requires-clause-before g c).In-Ok)
+    (asks_edit g.M.Columns.columns g.M.Columns.states g.M.Columns.serves _ c.self.invariant.0 c.edited.new.circuit.graph c.change_of-change.result
+    c.self.inside.stage (g.M.Columns.spare c.self.inside.stage) _ (undone g (goal.at.edit_stage-requires-clause-before g c).In-Ok)
     c.self.invariant.0.sound (room_place _ c.edited.new.circuit c.args.number _ _ c.in-Ok.ensures.ok) c.self.invariant.0.served)
 
 pub invariant_of-self : goal.invariant_of-self
 invariant_of-self g c = (
-  held_edited g.M.Stage.columns g.M.Stage.states g.M.Stage.serves _ c.edited.new.circuit c.edit_stage.new.stage c.edit_stage.new.kept.bound _
+  held_edited g.M.Columns.columns g.M.Columns.states g.M.Columns.serves _ c.edited.new.circuit c.edit_stage.new.stage c.edit_stage.new.kept.bound _
       (rw c.graph-in-Ok.ensures.value at c.edit_stage.ensures.state) c.edit_stage.ensures.bound c.edit_stage.ensures.kept
       c.graph-in-Ok.ensures.netlist (undone g (goal.at.invariant_of-self g c).In-Ok).more c.edit_stage.ensures.columns
       (rw c.graph-in-Ok.ensures.value at c.edit_stage.ensures.states)
@@ -41,7 +41,7 @@ pub returns-in-Ok-clause-quiet : goal.returns-in-Ok-clause-quiet
 returns-in-Ok-clause-quiet g c =
     rw (← c.self.view_is)
     (switched_does (session_of c.self.invariant.0).core _ c.edited.new.circuit c.args.number c.args.edit c.in-Ok.ensures.answer c.in-Ok.ensures.ok
-    (core_edited g.M.Stage.columns g.M.Stage.states g.M.Stage.serves (session_of c.self.invariant.0) c.edited.new.circuit c.edit_stage.new.stage
+    (core_edited g.M.Columns.columns g.M.Columns.states g.M.Columns.serves (session_of c.self.invariant.0) c.edited.new.circuit c.edit_stage.new.stage
     c.edit_stage.new.kept.bound _ (rw c.graph-in-Ok.ensures.value at c.edit_stage.ensures.state) c.edit_stage.ensures.bound c.edit_stage.ensures.kept))
 
 pub returns-in-Err-clause-quiet : goal.returns-in-Err-clause-quiet

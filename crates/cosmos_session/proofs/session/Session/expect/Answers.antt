@@ -16,7 +16,7 @@ pub returns-in_err-lines-clause-obeys : goal.returns-in_err-lines-clause-obeys
 returns-in_err-lines-clause-obeys g c = λ texts.
     let stopped = err_from_is_err_and c.from_residual.result c.from_residual.ensures.1 in
     rw (stopped.1, stopped.2)
-    (fault_obeys g.L.Lines.hear g.L.Lines.part g.M.Stage.did c.args.self.now (family.Tell (asked.Expect c.args.list.now)) _ texts _ _
+    (fault_obeys g.L.Lines.hear g.L.Lines.part g.M.Columns.did c.args.self.now (family.Tell (asked.Expect c.args.list.now)) _ texts _ _
     (rw c.items.ensures at c.in_err-lines.ensures.refused))
 
 pub returns-in_err-lines-clause-faults : goal.returns-in_err-lines-clause-faults
@@ -43,6 +43,6 @@ returns-clause-obeys g c = λ texts.
     let any : not c.is_empty.result ≡ list_any is_unmet lines = rw (← told) (search (rules, sym (unmet_any core c.args.list.now), told)) in
     let missed = λ (any : Bool). record core { missed = core.missed || any } in
     rw (← c.self.view_is)
-    (still_obeys g.L.Lines.hear g.L.Lines.part g.M.Stage.did session _ command lines _ _ texts _ _ c.tell_unmet-told.result refl allowed
+    (still_obeys g.L.Lines.hear g.L.Lines.part g.M.Columns.did session _ command lines _ _ texts _ _ c.tell_unmet-told.result refl allowed
     (ap missed any, refl) (lines, (ap missed any, refl)) (rw (c.deref-2.ensures.value, told, c.reserve.ensures.heard) at c.tell_unmet-told.ensures.sent)
     c.tell_unmet-told.ensures.cause (rw c.reserve.ensures.refusals at c.tell_unmet-told.ensures.refusals) refl)

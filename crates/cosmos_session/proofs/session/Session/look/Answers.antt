@@ -15,7 +15,7 @@ use Rattle.cosmos_session.proofs.session.Session.look.Goals as goal
 
 pub returns-in-Some-clause-obeys : goal.returns-in-Some-clause-obeys
 returns-in-Some-clause-obeys g c = λ texts.
-    fault_obeys g.L.Lines.hear g.L.Lines.part g.M.Stage.did c.args.self.now (family.Tell (asked.Look c.args.names.now)) _ texts _ (Refused c.in-Some.refusal)
+    fault_obeys g.L.Lines.hear g.L.Lines.part g.M.Columns.did c.args.self.now (family.Tell (asked.Look c.args.names.now)) _ texts _ (Refused c.in-Some.refusal)
     (rw (← c.self.view_is, ← c.items.ensures) (sym c.in-Some.ensures))
 
 pub tell_looked-requires-clause-states : goal.tell_looked-requires-clause-states
@@ -46,7 +46,7 @@ returns-clause-obeys g c = λ texts.
     let lines = flat_map (looked_lines core.circuit core.state) names in
     let allowed : refusal_of core command ≡ None = sym (rw (c.in_default.is, c.items.ensures) at c.node_refusal.ensures) in
     rw (← c.self.view_is)
-    (still_obeys g.L.Lines.hear g.L.Lines.part g.M.Stage.did session session command lines _ _ texts _ _ c.tell_looked.result refl allowed
+    (still_obeys g.L.Lines.hear g.L.Lines.part g.M.Columns.did session session command lines _ _ texts _ _ c.tell_looked.result refl allowed
     (looked_told core names, refl) (lines, (looked_told core names, refl))
     (rw (c.items-2.ensures, c.column.ensures.value, c.reserve.ensures.heard) at c.tell_looked.ensures.sent)
     c.tell_looked.ensures.cause (rw c.reserve.ensures.refusals at c.tell_looked.ensures.refusals) refl)

@@ -22,13 +22,13 @@ edit_stage-requires-clause-some g c = c.self.invariant.0.some
 pub edit_stage-requires-clause-before : goal.edit_stage-requires-clause-before
 edit_stage-requires-clause-before g c =
     rw c.graph-2.ensures.value
-    (asks_edit g.M.Stage.columns g.M.Stage.states g.M.Stage.serves _ c.self.invariant.0 c.put_input.new.circuit.graph c.change_of_level-change.result
-    c.self.inside.stage (g.M.Stage.spare c.self.inside.stage) _ (undone g (goal.at.edit_stage-requires-clause-before g c).After-put_input)
+    (asks_edit g.M.Columns.columns g.M.Columns.states g.M.Columns.serves _ c.self.invariant.0 c.put_input.new.circuit.graph c.change_of_level-change.result
+    c.self.inside.stage (g.M.Columns.spare c.self.inside.stage) _ (undone g (goal.at.edit_stage-requires-clause-before g c).After-put_input)
     c.self.invariant.0.sound (room_level _ c.put_input.new.circuit c.args.node _ _ c.put_input.ensures) c.self.invariant.0.served)
 
 pub invariant_of-self : goal.invariant_of-self
 invariant_of-self g c = (
-  held_edited g.M.Stage.columns g.M.Stage.states g.M.Stage.serves _ c.put_input.new.circuit c.edit_stage.new.stage c.edit_stage.new.kept.bound _
+  held_edited g.M.Columns.columns g.M.Columns.states g.M.Columns.serves _ c.put_input.new.circuit c.edit_stage.new.stage c.edit_stage.new.kept.bound _
       (rw c.graph-2.ensures.value at c.edit_stage.ensures.state) c.edit_stage.ensures.bound c.edit_stage.ensures.kept
       c.graph-2.ensures.netlist (undone g (goal.at.invariant_of-self g c).After-put_input).more c.edit_stage.ensures.columns
       (rw c.graph-2.ensures.value at c.edit_stage.ensures.states)
@@ -41,7 +41,8 @@ returns-clause-made g c =
     let core = (session_of c.self.invariant.0).core in
     let room = room_level core.circuit c.put_input.new.circuit c.args.node _ 0 c.put_input.ensures in
     rw (← c.self.view_is)
-    (core_kept g.M.Stage.columns g.M.Stage.states g.M.Stage.serves (session_of c.self.invariant.0) c.put_input.new.circuit c.edit_stage.new.stage
+    (core_kept g.M.Columns.columns g.M.Columns.states g.M.Columns.serves (session_of c.self.invariant.0) c.put_input.new.circuit
+    c.edit_stage.new.stage
     c.edit_stage.new.kept.bound _
     (rw c.graph-2.ensures.value at c.edit_stage.ensures.state) c.edit_stage.ensures.bound c.edit_stage.ensures.kept
     (omega (arith, room, c.self.invariant.0.core.ready.states))

@@ -34,5 +34,5 @@ loop-node-preserved g c =
       made = made;
       count = count;
       same = same;
-      stage = leads_by_both g.M.Stage.did IsEditing start.stage now.stage new.stage c.loop-node.invariant.stage c.make_input.ensures.stage;
+      stage = leads_by_both g.M.Columns.did IsEditing start.stage now.stage new.stage c.loop-node.invariant.stage c.make_input.ensures.stage;
     }

@@ -11,5 +11,5 @@ invariant-loop-node g l = record {
   made : with_inputs l.self.core.circuit (drop l.node-index l.list) ≡ with_inputs l.initial.self.core.circuit l.list;
   count : nodes l.self.core.circuit.graph ≡ nodes l.initial.self.core.circuit.graph;
   same : l.self.core ≡ record l.initial.self.core { circuit = l.self.core.circuit };
-  stage : LeadsBy g.M.Stage.did IsEditing l.initial.self.stage l.self.stage;
+  stage : LeadsBy g.M.Columns.did IsEditing l.initial.self.stage l.self.stage;
 }

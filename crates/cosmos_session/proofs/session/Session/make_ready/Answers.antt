@@ -34,8 +34,7 @@ build_stage-requires-clause-serves g c = rw c.graph-graph.ensures.value c.self.i
 
 pub invariant_of-self : goal.invariant_of-self
 invariant_of-self g c = (
-  held_built g.M.Stage.columns g.M.Stage.states g.M.Stage.serves (session_of c.self.invariant.0) c.build_stage.new.stage
-      c.build_stage.new.kept.bound _
+  held_built g.M.Columns.columns g.M.Columns.states g.M.Columns.serves (session_of c.self.invariant.0) c.build_stage.new.stage c.build_stage.new.kept.bound _
       c.saturating_add-self-inside.result c.build_stage.ensures.state c.build_stage.ensures.columns c.build_stage.ensures.states
       (rw c.graph-graph.ensures.value at c.build_stage.ensures.serves) c.self.invariant.0,
   c.build_stage.ensures.last,
@@ -43,8 +42,7 @@ invariant_of-self g c = (
 
 pub invariant_of-self-in-Err : goal.invariant_of-self-in-Err
 invariant_of-self-in-Err g c = (
-  held_built g.M.Stage.columns g.M.Stage.states g.M.Stage.serves (session_of c.self.invariant.0) c.build_stage.new.stage
-      c.build_stage.new.kept.bound _
+  held_built g.M.Columns.columns g.M.Columns.states g.M.Columns.serves (session_of c.self.invariant.0) c.build_stage.new.stage c.build_stage.new.kept.bound _
       (session_of c.self.invariant.0).core.fresh c.build_stage.ensures.state c.build_stage.ensures.columns c.build_stage.ensures.states
       (rw c.graph-graph.ensures.value at c.build_stage.ensures.serves) c.self.invariant.0,
   c.build_stage.ensures.last,
@@ -55,8 +53,8 @@ returns-in-Ok-clause-readies g c =
     let session = session_of c.self.invariant.0 in
     let counted : c.saturating_add-self-inside.result ≡ raised session.core.fresh c.in-Ok.fresh = omega arith in
     rw (← c.self.view_is)
-    (readied_built g.M.Stage.columns g.M.Stage.states g.M.Stage.serves session c.build_stage.new.stage c.build_stage.new.kept.bound _
-    c.saturating_add-self-inside.result c.build_stage.ensures.state g.M.Stage.did c.in-Ok.fresh _ _
+    (readied_built g.M.Columns.columns g.M.Columns.states g.M.Columns.serves session c.build_stage.new.stage c.build_stage.new.kept.bound _
+    c.saturating_add-self-inside.result c.build_stage.ensures.state g.M.Columns.did c.in-Ok.fresh _ _
     (rw c.graph-graph.ensures.value at c.in-Ok.ensures.builds) (rw c.graph-graph.ensures.value at c.in-Ok.ensures.did) c.build_stage.ensures.bound counted)
 
 pub returns-in-Err-clause-readies : goal.returns-in-Err-clause-readies
@@ -67,15 +65,27 @@ returns-in-Err-clause-readies g c =
     let stands = c.in-Err.ensures.err in
     let stage = c.build_stage.new.stage in
     let bound = c.build_stage.new.kept.bound in
-    let kept : List GroupTextData = used_texts (g.M.Stage.last stage) (texts_of c.build_stage.new.kept) in
-    let new : HeldSession _ = record { core = record session.core { state = g.M.Stage.states stage 0; bound = bound; kept = kept }; stage = stage } in
+    let kept : List GroupTextData = used_texts (g.M.Columns.last stage) (texts_of c.build_stage.new.kept) in
+    let new : HeldSession _ = record { core = record session.core { state = g.M.Columns.states stage 0; bound = bound; kept = kept }; stage = stage } in
     let asked = g.A.Analyst.analysed c.args.analyst.now in
     let told = g.A.Analyst.analysed c.build_stage.new.analyst in
-    readies_as g.M.Stage.cuts g.M.Stage.did session c.args.self.now new asked told c.in-Err.fault c.of_build.result c.self.view_is c.of_build.ensures
-    (unready_built g.M.Stage.cuts g.M.Stage.states g.M.Stage.did session stage bound kept asked told stands c.build_stage.ensures.state
+    readies_as g.M.Columns.cuts g.M.Columns.did session c.args.self.now new asked told c.in-Err.fault c.of_build.result c.self.view_is c.of_build.ensures
+    (unready_built g.M.Columns.cuts g.M.Columns.states g.M.Columns.did session stage bound kept asked told stands c.build_stage.ensures.state
     c.build_stage.ensures.bound c.in-Err.fault
     (elim refused [
       | inl is ↦ inl is
-      | inr held ↦ inr (held.0, (λ i. used_texts (g.M.Stage.last (stands i)) (texts_of (held.1 i))), held.2)
+      | inr held ↦ inr (held.0, (λ i. used_texts (g.M.Columns.last (stands i)) (texts_of (held.1 i))), held.2)
     ])
     (λ is. cut_off (ap Err is)))
+
+pub returns-in-Ok-clause-columns : goal.returns-in-Ok-clause-columns
+returns-in-Ok-clause-columns g c = rw (← c.self.view_is) c.build_stage.ensures.columns
+
+pub returns-in-Err-clause-columns : goal.returns-in-Err-clause-columns
+returns-in-Err-clause-columns g c = rw (← c.self.view_is) c.build_stage.ensures.columns
+
+pub returns-in-Ok-clause-states : goal.returns-in-Ok-clause-states
+returns-in-Ok-clause-states g c = rw (← c.self.view_is) c.build_stage.ensures.states
+
+pub returns-in-Err-clause-states : goal.returns-in-Err-clause-states
+returns-in-Err-clause-states g c = rw (← c.self.view_is) c.build_stage.ensures.states

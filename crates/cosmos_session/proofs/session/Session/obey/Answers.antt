@@ -5,21 +5,24 @@ use Rattle.session_meaning.proofs.OutcomeLemmas.{obeys_alone, on_ok, on_ok-map, 
 use Rattle.session_meaning.proofs.PassingLemmas.{knows-edit, knows-give, knows-run, knows-setup, knows-tell, nothing_seen, unseen_yet}
 use Rattle.cosmos_session.proofs.session.Session.obey.Goals as goal
 
+pub run-requires-clause-session : goal.run-requires-clause-session
+run-requires-clause-session g c = c.requires.session
+
 pub returns-in-Edit-clause-obeys : goal.returns-in-Edit-clause-obeys
 returns-in-Edit-clause-obeys g c =
-    rw c.in-Edit.is (quiet_obeys g.L.Lines.hear g.L.Lines.part g.M.Stage.did c.args.self.now c.edit.new.self (family.Edit c.in-Edit.edit) _ _ _ c.edit.result refl
+    rw c.in-Edit.is (quiet_obeys g.L.Lines.hear g.L.Lines.part g.M.Columns.did c.args.self.now c.edit.new.self (family.Edit c.in-Edit.edit) _ _ _ c.edit.result refl
     c.edit.ensures.quiet c.edit.ensures.stage c.edit.ensures.still)
 
 pub returns-in-Give-clause-obeys : goal.returns-in-Give-clause-obeys
 returns-in-Give-clause-obeys g c =
-    rw c.in-Give.is (quiet_obeys g.L.Lines.hear g.L.Lines.part g.M.Stage.did c.args.self.now c.give.new.self (family.Give c.in-Give.give) _ _ _ c.give.result refl
-    c.give.ensures.quiet c.give.ensures.stage (still_after g.M.Stage.did c.args.self.now.stage c.give.new.self.stage c.give.result c.give.ensures.still))
+    rw c.in-Give.is (quiet_obeys g.L.Lines.hear g.L.Lines.part g.M.Columns.did c.args.self.now c.give.new.self (family.Give c.in-Give.give) _ _ _ c.give.result refl
+    c.give.ensures.quiet c.give.ensures.stage (still_after g.M.Columns.did c.args.self.now.stage c.give.new.self.stage c.give.result c.give.ensures.still))
 
 pub returns-in-Setup-clause-obeys : goal.returns-in-Setup-clause-obeys
 returns-in-Setup-clause-obeys g c =
-    rw c.in-Setup.is (quiet_obeys g.L.Lines.hear g.L.Lines.part g.M.Stage.did c.args.self.now c.set_up.new.self (family.Setup c.in-Setup.setup) _ _ _
+    rw c.in-Setup.is (quiet_obeys g.L.Lines.hear g.L.Lines.part g.M.Columns.did c.args.self.now c.set_up.new.self (family.Setup c.in-Setup.setup) _ _ _
     c.set_up.result refl c.set_up.ensures.quiet (on_ok _ c.set_up.result c.set_up.ensures.stage)
-    (still_always g.M.Stage.did c.args.self.now.stage c.set_up.new.self.stage c.set_up.result c.set_up.ensures.stage))
+    (still_always g.M.Columns.did c.args.self.now.stage c.set_up.new.self.stage c.set_up.result c.set_up.ensures.stage))
 
 pub returns-in-Run-clause-obeys : goal.returns-in-Run-clause-obeys
 returns-in-Run-clause-obeys g c = rw c.in-Run.is c.run.ensures.obeys
@@ -65,7 +68,7 @@ pub returns-in-Tell-clause-knows : goal.returns-in-Tell-clause-knows
 returns-in-Tell-clause-knows g c =
     rw c.in-Tell.is (knows-tell g.O.Observer.knows c.args.onlooker.now c.args.self.now.core c.tell.new.self.core c.requires.knows g.L.Lines.hear g.L.Lines.part
     c.in-Tell.tell _ _ _ _ _ _ c.tell.result
-    (obeys_alone g.L.Lines.hear g.L.Lines.part g.M.Stage.did c.args.self.now c.tell.new.self (family.Tell c.in-Tell.tell) _ _ _ _ _ _ c.tell.result
+    (obeys_alone g.L.Lines.hear g.L.Lines.part g.M.Columns.did c.args.self.now c.tell.new.self (family.Tell c.in-Tell.tell) _ _ _ _ _ _ c.tell.result
     (c.tell.ensures.obeys (g.A.Analyst.analysed c.args.analyst.now))))
 
 pub returns-in-Edit-clause-unseen : goal.returns-in-Edit-clause-unseen

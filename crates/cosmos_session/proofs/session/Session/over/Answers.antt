@@ -24,11 +24,11 @@ invariant_of-result g c =
     let stage = c.args.stage in
     let table = texts_of c.with_keys-kept.result in
     let bound = c.with_keys-kept.result.bound in
-    let kept = used_texts (g.M.Stage.last stage) table in (
-      subst (λ (core : SessionData). IsHeldSession g.M.Stage.columns g.M.Stage.states g.M.Stage.serves (record { core = core; stage = stage }))
-          (sym (core_bare circuit (g.M.Stage.states stage 0) c.new.result.items c.new-2.result.items c.new-vectors.result c.new-3.result.items bound kept
+    let kept = used_texts (g.M.Columns.last stage) table in (
+      subst (λ (core : SessionData). IsHeldSession g.M.Columns.columns g.M.Columns.states g.M.Columns.serves (record { core = core; stage = stage }))
+          (sym (core_bare circuit (g.M.Columns.states stage 0) c.new.result.items c.new-2.result.items c.new-vectors.result c.new-3.result.items bound kept
           c.new.ensures.items c.new-2.ensures.items c.new-vectors.ensures c.new-3.ensures.items))
-          (held_over g.M.Stage.columns g.M.Stage.states g.M.Stage.serves circuit stage bound kept c.graph-graph.ensures.netlist c.requires.some c.requires.start
+          (held_over g.M.Columns.columns g.M.Columns.states g.M.Columns.serves circuit stage bound kept c.graph-graph.ensures.netlist c.requires.some c.requires.start
           (ap (λ (k : KeptData). k.bound) c.with_keys-kept.ensures) (c.requires.serves kept)),
       same_among _ _ table c.requires.last (none_missing table),
     )
@@ -39,10 +39,10 @@ returns-clause-start g c =
     let stage = c.args.stage in
     let table = texts_of c.with_keys-kept.result in
     let bound = c.with_keys-kept.result.bound in
-    let kept = used_texts (g.M.Stage.last stage) table in
+    let kept = used_texts (g.M.Columns.last stage) table in
     let none : table ≡ [] = ap texts_of c.with_keys-kept.ensures in
     λ column inside.
-    core_bare circuit (g.M.Stage.states stage column) c.new.result.items c.new-2.result.items c.new-vectors.result c.new-3.result.items bound kept
+    core_bare circuit (g.M.Columns.states stage column) c.new.result.items c.new-2.result.items c.new-vectors.result c.new-3.result.items bound kept
     c.new.ensures.items c.new-2.ensures.items c.new-vectors.ensures c.new-3.ensures.items
-    ∙ core_start circuit (g.M.Stage.states stage column) bound kept [] (c.requires.start column inside) (ap (λ (k : KeptData). k.bound) c.with_keys-kept.ensures)
+    ∙ core_start circuit (g.M.Columns.states stage column) bound kept [] (c.requires.start column inside) (ap (λ (k : KeptData). k.bound) c.with_keys-kept.ensures)
     (ap (λ (last : List GroupTextData). used_texts last table) c.requires.last ∙ sym (kept_alone table) ∙ none)

@@ -1,11 +1,10 @@
 -- The clocks' nodes are past the rails.
-use Rattle.std.proofs.Common.{ℕ, ◌≤◌, List, sym, ap, subst}
-use Rattle.group_text.specs.Texts.{GroupTextData}
-use Rattle.group_analysis.specs.Using.{used_texts}
+use Rattle.std.proofs.Common.{refl, sym, subst}
 use Rattle.analysis_cache.specs.Keeping.{texts_of}
-use Rattle.column_stage.proofs.FrontLemmas.{same_among}
+use Rattle.column_stage.proofs.SoundLemmas.{first_of_some}
 use Rattle.session_meaning.specs.Sessions.{HeldSession}
-use Rattle.session_meaning.proofs.StayingLemmas.{core_given, held_beside, session_of}
+use Rattle.session_meaning.proofs.StayingLemmas.{core_given, session_of}
+use Rattle.cosmos_session.proofs.StageLemmas.{stage_moved, used_same}
 use Rattle.cosmos_session.proofs.session.Session.put_clocks.Goals as goal
 
 pub put_states-requires-clause-some : goal.put_states-requires-clause-some
@@ -19,29 +18,30 @@ put_states-requires-clause-within g c = rw (c.graph.ensures.value, c.deref.ensur
 
 pub invariant_of-self : goal.invariant_of-self
 invariant_of-self g c =
-    let held = c.self.invariant.0 in
     let session = session_of c.self.invariant.0 in
-    let core = session.core in
-    let stage = c.put_states.new.stage in
-    let table = texts_of c.self.inside.kept in (
-      held_beside g.M.Stage.columns g.M.Stage.states g.M.Stage.serves session stage core.count (used_texts (g.M.Stage.last stage) table)
-          (ap (λ (last : List GroupTextData). used_texts last table) c.put_states.ensures.last)
-          (subst (λ (n : ℕ). 1 ≤ n) (sym c.put_states.ensures.columns) held.some) (rw c.graph.ensures.value at c.put_states.ensures.sound)
-          ((rw c.graph.ensures.value at c.put_states.ensures.serves) core.kept held.served) held,
-      same_among _ _ table c.put_states.ensures.last c.self.invariant.1,
-    )
+    stage_moved g.M.Columns.columns g.M.Columns.states g.M.Columns.serves g.M.Columns.last (texts_of c.self.inside.kept) session
+    c.put_states.new.stage
+    session.core.count c.self.invariant refl c.put_states.ensures.last c.put_states.ensures.columns
+    (rw c.graph.ensures.value at c.put_states.ensures.sound)
+    (rw c.graph.ensures.value at c.put_states.ensures.serves)
 
 pub returns-clause-beat : goal.returns-clause-beat
 returns-clause-beat g c =
     let table = texts_of c.self.inside.kept in
     rw (← c.self.view_is)
-    (core_given (session_of c.self.invariant.0).core _ _ _ (rw c.deref.ensures.value at c.put_states.ensures.state)
-    (ap (λ (last : List GroupTextData). used_texts last table) c.put_states.ensures.last))
+    (core_given (session_of c.self.invariant.0).core _ _ _ ((rw c.deref.ensures.value at c.put_states.ensures.states) 0 (first_of_some _ c.self.invariant.0.some))
+    (used_same _ _ table c.put_states.ensures.last))
 
 pub returns-clause-fits : goal.returns-clause-fits
 returns-clause-fits g c =
     (rw c.graph.ensures.value at c.put_states.ensures.fits)
-    (subst (λ (s : HeldSession _). g.M.Stage.fits s.stage s.core.circuit.graph) (sym c.self.view_is) c.requires.fits)
+    (subst (λ (s : HeldSession _). g.M.Columns.fits s.stage s.core.circuit.graph) (sym c.self.view_is) c.requires.fits)
 
 pub returns-clause-stage : goal.returns-clause-stage
 returns-clause-stage g c = rw (← c.self.view_is) (rw (c.graph.ensures.value, c.deref.ensures.value) at c.put_states.ensures.did)
+
+pub returns-clause-columns : goal.returns-clause-columns
+returns-clause-columns g c = rw (← c.self.view_is) c.put_states.ensures.columns
+
+pub returns-clause-states : goal.returns-clause-states
+returns-clause-states g c = rw (← c.self.view_is) (rw c.deref.ensures.value at c.put_states.ensures.states)

@@ -1,16 +1,14 @@
 -- The stage's columns have their letters, and the rest of the session stays.
-use Rattle.std.proofs.Common.{◌≡◌, ℕ, ◌≤◌, true, List, All, is_some, refl, sym, ap, subst}
+use Rattle.std.proofs.Common.{◌≡◌, ℕ, ◌≤◌, true, List, All, is_some, refl, sym, subst}
 use Rattle.ternary.specs.declared.tern.Tern.{Tern}
 use Rattle.switch_paths.specs.declared.TheConstants.{RAILS}
 use Rattle.netlist.specs.Edits.{node_named}
 use Rattle.netlist.specs.Names.{node_of}
-use Rattle.group_text.specs.Texts.{GroupTextData}
-use Rattle.group_analysis.specs.Using.{used_texts}
 use Rattle.analysis_cache.specs.Keeping.{texts_of}
 use Rattle.column_stage.specs.Columns.{IsLetters}
-use Rattle.column_stage.proofs.FrontLemmas.{same_among}
 use Rattle.session_meaning.specs.Sessions.{HeldSession}
-use Rattle.session_meaning.proofs.StayingLemmas.{core_given, held_beside, session_of}
+use Rattle.session_meaning.proofs.StayingLemmas.{core_given, session_of}
+use Rattle.cosmos_session.proofs.StageLemmas.{stage_moved, used_same}
 use Rattle.cosmos_session.proofs.session.Session.put_letters.Goals as goal
 
 pub place_letters-requires-clause-sound : goal.place_letters-requires-clause-sound
@@ -18,7 +16,7 @@ place_letters-requires-clause-sound g c = c.self.invariant.0.sound
 
 pub place_letters-requires-clause-fit : goal.place_letters-requires-clause-fit
 place_letters-requires-clause-fit g c =
-    subst (λ (s : HeldSession _). All (λ (item : List ℕ × List Tern). IsLetters (g.M.Stage.columns s.stage) item.1) c.args.list.now) (sym c.self.view_is)
+    subst (λ (s : HeldSession _). All (λ (item : List ℕ × List Tern). IsLetters (g.M.Columns.columns s.stage) item.1) c.args.list.now) (sym c.self.view_is)
     c.requires.fit
 
 pub place_letters-requires-clause-known : goal.place_letters-requires-clause-known
@@ -33,23 +31,18 @@ place_letters-requires-clause-past g c =
 
 pub invariant_of-self : goal.invariant_of-self
 invariant_of-self g c =
-    let held = c.self.invariant.0 in
     let session = session_of c.self.invariant.0 in
-    let stage = c.place_letters.new.stage in
-    let table = texts_of c.self.inside.kept in (
-      held_beside g.M.Stage.columns g.M.Stage.states g.M.Stage.serves session stage session.core.count (used_texts (g.M.Stage.last stage) table)
-          (ap (λ (last : List GroupTextData). used_texts last table) c.place_letters.ensures.last)
-          (subst (λ (n : ℕ). 1 ≤ n) (sym c.place_letters.ensures.columns) held.some) c.place_letters.ensures.sound
-          (c.place_letters.ensures.serves session.core.kept held.served) held,
-      same_among _ _ table c.place_letters.ensures.last c.self.invariant.1,
-    )
+    stage_moved g.M.Columns.columns g.M.Columns.states g.M.Columns.serves g.M.Columns.last (texts_of c.self.inside.kept) session c.place_letters.new.stage
+    session.core.count c.self.invariant refl c.place_letters.ensures.last c.place_letters.ensures.columns
+    c.place_letters.ensures.sound
+    c.place_letters.ensures.serves
 
 pub returns-clause-core : goal.returns-clause-core
 returns-clause-core g c =
     let core = (session_of c.self.invariant.0).core in
-    let state = g.M.Stage.states c.place_letters.new.stage 0 in
+    let state = g.M.Columns.states c.place_letters.new.stage 0 in
     let table = texts_of c.self.inside.kept in
-    rw (← c.self.view_is) (core_given core state state _ refl (ap (λ (last : List GroupTextData). used_texts last table) c.place_letters.ensures.last))
+    rw (← c.self.view_is) (core_given core state state _ refl (used_same _ _ table c.place_letters.ensures.last))
 
 pub returns-clause-stage : goal.returns-clause-stage
 returns-clause-stage g c = rw (← c.self.view_is) c.place_letters.ensures.did

@@ -35,15 +35,15 @@ pub edit_stage-requires-clause-before : goal.edit_stage-requires-clause-before
 edit_stage-requires-clause-before g c =
     let session = session_of c.self.invariant.0 in
     let stage = c.take_room.new.stage in
-    let serves : g.M.Stage.serves stage session.core.circuit.graph (used_texts (g.M.Stage.last stage) (texts_of c.self.inside.kept)) =
-    subst (λ (last : List GroupTextData). g.M.Stage.serves stage session.core.circuit.graph (used_texts last (texts_of c.self.inside.kept)))
+    let serves : g.M.Columns.serves stage session.core.circuit.graph (used_texts (g.M.Columns.last stage) (texts_of c.self.inside.kept)) =
+    subst (λ (last : List GroupTextData). g.M.Columns.serves stage session.core.circuit.graph (used_texts last (texts_of c.self.inside.kept)))
     (sym c.take_room.ensures.last) (c.take_room.ensures.serves session.core.circuit.graph session.core.kept c.self.invariant.0.served) in
     rw c.graph-in-Ok.ensures.value
-    (asks_edit g.M.Stage.columns g.M.Stage.states g.M.Stage.serves session c.self.invariant.0 c.rewire.new.self.graph c.change_of-change.result
-    stage (g.M.Stage.spare stage) _ (undone g (goal.at.edit_stage-requires-clause-before g c).In-Ok)
-    (sound_still g.M.Stage.columns g.M.Stage.states session.core.circuit.graph c.self.inside.stage stage c.take_room.ensures.columns c.take_room.ensures.states
+    (asks_edit g.M.Columns.columns g.M.Columns.states g.M.Columns.serves session c.self.invariant.0 c.rewire.new.self.graph c.change_of-change.result
+    stage (g.M.Columns.spare stage) _ (undone g (goal.at.edit_stage-requires-clause-before g c).In-Ok)
+    (sound_still g.M.Columns.columns g.M.Columns.states session.core.circuit.graph c.self.inside.stage stage c.take_room.ensures.columns c.take_room.ensures.states
     c.self.invariant.0.sound)
-    (room_wires session.core.circuit c.rewire.new.self c.args.number (g.M.Stage.spare stage)
+    (room_wires session.core.circuit c.rewire.new.self c.args.number (g.M.Columns.spare stage)
     c.items-gate.result.now c.items-source.result.now c.items-drain.result.now c.in-Ok.ensures.ok c.in_ok-take_room.ensures.room) serves)
 
 pub invariant_of-self-in-Ok : goal.invariant_of-self-in-Ok
@@ -51,11 +51,11 @@ invariant_of-self-in-Ok g c =
     let session = session_of c.self.invariant.0 in
     let table = texts_of c.self.inside.kept in
     let front = ap (λ (last : List GroupTextData). used_texts last table) c.take_room.ensures.last in (
-      held_edited g.M.Stage.columns g.M.Stage.states g.M.Stage.serves session c.rewire.new.self c.edit_stage.new.stage c.edit_stage.new.kept.bound _
+      held_edited g.M.Columns.columns g.M.Columns.states g.M.Columns.serves session c.rewire.new.self c.edit_stage.new.stage c.edit_stage.new.kept.bound _
           (rw (c.graph-in-Ok.ensures.value, c.take_room.ensures.state) at c.edit_stage.ensures.state) c.edit_stage.ensures.bound
           (c.edit_stage.ensures.kept ∙ front) c.graph-in-Ok.ensures.netlist (undone g (goal.at.invariant_of-self-in-Ok g c).In-Ok).more
           (c.edit_stage.ensures.columns ∙ c.take_room.ensures.columns)
-          (grown_behind g.M.Stage.columns g.M.Stage.states g.M.Stage.serves c.self.inside.stage c.take_room.new.stage c.edit_stage.new.stage _
+          (grown_behind g.M.Columns.columns g.M.Columns.states g.M.Columns.serves c.self.inside.stage c.take_room.new.stage c.edit_stage.new.stage _
           c.take_room.ensures.columns c.take_room.ensures.states (rw c.graph-in-Ok.ensures.value at c.edit_stage.ensures.states))
           (rw (c.graph-in-Ok.ensures.value, c.take_room.ensures.last) at c.edit_stage.ensures.serves) c.self.invariant.0,
       c.edit_stage.ensures.last,
@@ -70,7 +70,7 @@ returns-in-Ok-clause-quiet g c =
     (rewired_does session.core _ c.rewire.new.self c.args.number c.args.gate.now c.args.source.now c.args.drain.now
     (rw (c.items-gate.ensures, c.items-source.ensures, c.items-drain.ensures) at c.in-Ok.ensures.allowed)
     (rw (c.items-gate.ensures, c.items-source.ensures, c.items-drain.ensures) at c.in-Ok.ensures.ok)
-    (core_edited g.M.Stage.columns g.M.Stage.states g.M.Stage.serves session c.rewire.new.self c.edit_stage.new.stage c.edit_stage.new.kept.bound _
+    (core_edited g.M.Columns.columns g.M.Columns.states g.M.Columns.serves session c.rewire.new.self c.edit_stage.new.stage c.edit_stage.new.kept.bound _
     (rw (c.graph-in-Ok.ensures.value, c.take_room.ensures.state) at c.edit_stage.ensures.state) c.edit_stage.ensures.bound
     (c.edit_stage.ensures.kept ∙ front)))
 
@@ -78,8 +78,8 @@ returns-in-Ok-clause-quiet g c =
 pub returns-in-Ok-clause-stage : goal.returns-in-Ok-clause-stage
 returns-in-Ok-clause-stage g c =
     rw (← c.self.view_is)
-    (leads_by_both g.M.Stage.did IsEditing c.self.inside.stage c.take_room.new.stage c.edit_stage.new.stage
-    (leads_by_one g.M.Stage.did IsEditing Reserved c.self.inside.stage c.take_room.new.stage tt c.take_room.ensures.did) c.edit_stage.ensures.did)
+    (leads_by_both g.M.Columns.did IsEditing c.self.inside.stage c.take_room.new.stage c.edit_stage.new.stage
+    (leads_by_one g.M.Columns.did IsEditing Reserved c.self.inside.stage c.take_room.new.stage tt c.take_room.ensures.did) c.edit_stage.ensures.did)
 
 pub returns-in-Err-clause-quiet : goal.returns-in-Err-clause-quiet
 returns-in-Err-clause-quiet g c =
@@ -87,8 +87,8 @@ returns-in-Err-clause-quiet g c =
     let core = session.core in
     let command = family.Edit (Wire c.args.number c.args.gate.now c.args.source.now c.args.drain.now) in
     let found = wire_fault core.circuit c.args.number c.args.gate.now c.args.source.now c.args.drain.now in
-    let kept : List GroupTextData = used_texts (g.M.Stage.last c.take_room.new.stage) (texts_of c.self.inside.kept) in
-    let new : SessionData = record core { circuit = c.rewire.new.self; state = g.M.Stage.states c.take_room.new.stage 0; kept = kept } in
+    let kept : List GroupTextData = used_texts (g.M.Columns.last c.take_room.new.stage) (texts_of c.self.inside.kept) in
+    let new : SessionData = record core { circuit = c.rewire.new.self; state = g.M.Columns.states c.take_room.new.stage 0; kept = kept } in
     quietly_as core c.args.self.now.core new command c.in-Err.fault c.of_edit.result (ap (λ (s : HeldSession _). s.core) c.self.view_is) c.of_edit.ensures
     (lacking_quietly core new command found c.in-Err.fault refl
     (rw (c.items-gate.ensures, c.items-source.ensures, c.items-drain.ensures) at c.in-Err.ensures.refused)

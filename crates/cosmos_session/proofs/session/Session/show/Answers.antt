@@ -12,7 +12,7 @@ use Rattle.cosmos_session.proofs.session.Session.show.Goals as goal
 
 pub returns-in-Some-clause-obeys : goal.returns-in-Some-clause-obeys
 returns-in-Some-clause-obeys g c = λ texts.
-    fault_obeys g.L.Lines.hear g.L.Lines.part g.M.Stage.did c.args.self.now (family.Tell (asked.Show c.args.names.now)) _ texts _ (Refused c.in-Some.refusal)
+    fault_obeys g.L.Lines.hear g.L.Lines.part g.M.Columns.did c.args.self.now (family.Tell (asked.Show c.args.names.now)) _ texts _ (Refused c.in-Some.refusal)
     (rw (← c.self.view_is, ← c.items.ensures) (sym c.in-Some.ensures))
 
 pub tell_shown-requires-clause-short : goal.tell_shown-requires-clause-short
@@ -41,7 +41,7 @@ returns-clause-obeys g c = λ texts.
     let lines = map (shown_line core) names in
     let allowed : refusal_of core command ≡ None = sym (rw (c.in_default.is, c.items.ensures) at c.known_refusal.ensures) in
     rw (← c.self.view_is)
-    (still_obeys g.L.Lines.hear g.L.Lines.part g.M.Stage.did session session command lines _ _ texts _ _ c.tell_shown.result refl allowed
+    (still_obeys g.L.Lines.hear g.L.Lines.part g.M.Columns.did session session command lines _ _ texts _ _ c.tell_shown.result refl allowed
     (shown_told core names, refl) (lines, (shown_told core names, refl))
     (rw (c.items-4.ensures, ← c.self.view_is, c.reserve.ensures.heard) at c.tell_shown.ensures.sent)
     c.tell_shown.ensures.cause (rw c.reserve.ensures.refusals at c.tell_shown.ensures.refusals) refl)

@@ -20,13 +20,13 @@ edit_stage-requires-clause-some g c = c.self.invariant.0.some
 pub edit_stage-requires-clause-before : goal.edit_stage-requires-clause-before
 edit_stage-requires-clause-before g c =
     rw c.graph-in-Ok.ensures.value
-    (asks_edit g.M.Stage.columns g.M.Stage.states g.M.Stage.serves _ c.self.invariant.0 c.make_store.new.self.graph c.change_of_level-change.result
-    c.self.inside.stage (g.M.Stage.spare c.self.inside.stage) _ (undone g (goal.at.edit_stage-requires-clause-before g c).In-Ok)
+    (asks_edit g.M.Columns.columns g.M.Columns.states g.M.Columns.serves _ c.self.invariant.0 c.make_store.new.self.graph c.change_of_level-change.result
+    c.self.inside.stage (g.M.Columns.spare c.self.inside.stage) _ (undone g (goal.at.edit_stage-requires-clause-before g c).In-Ok)
     c.self.invariant.0.sound (room_level _ c.make_store.new.self c.in-Some.node _ _ c.in-Ok.ensures.ok) c.self.invariant.0.served)
 
 pub invariant_of-self : goal.invariant_of-self
 invariant_of-self g c = (
-  held_edited g.M.Stage.columns g.M.Stage.states g.M.Stage.serves _ c.make_store.new.self c.edit_stage.new.stage c.edit_stage.new.kept.bound _
+  held_edited g.M.Columns.columns g.M.Columns.states g.M.Columns.serves _ c.make_store.new.self c.edit_stage.new.stage c.edit_stage.new.kept.bound _
       (rw c.graph-in-Ok.ensures.value at c.edit_stage.ensures.state) c.edit_stage.ensures.bound c.edit_stage.ensures.kept
       c.graph-in-Ok.ensures.netlist (undone g (goal.at.invariant_of-self g c).In-Ok).more c.edit_stage.ensures.columns
       (rw c.graph-in-Ok.ensures.value at c.edit_stage.ensures.states)

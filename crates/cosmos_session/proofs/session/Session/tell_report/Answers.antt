@@ -11,13 +11,13 @@ use Rattle.cosmos_session.proofs.session.Session.tell_report.Goals as goal
 
 pub groups-groups-requires : goal.groups-groups-requires
 groups-groups-requires g c =
-    subst (λ (graph : GraphData). g.M.Stage.fits c.self.inside.stage graph) (sym c.graph-graph.ensures.value)
-    (subst (λ (s : HeldSession _). g.M.Stage.fits s.stage s.core.circuit.graph) (sym c.self.view_is) c.requires.fits)
+    subst (λ (graph : GraphData). g.M.Columns.fits c.self.inside.stage graph) (sym c.graph-graph.ensures.value)
+    (subst (λ (s : HeldSession _). g.M.Columns.fits s.stage s.core.circuit.graph) (sym c.self.view_is) c.requires.fits)
 
 pub texts-texts-requires : goal.texts-texts-requires
 texts-texts-requires g c =
-    subst (λ (graph : GraphData). g.M.Stage.fits c.self.inside.stage graph) (sym c.graph-graph.ensures.value)
-    (subst (λ (s : HeldSession _). g.M.Stage.fits s.stage s.core.circuit.graph) (sym c.self.view_is) c.requires.fits)
+    subst (λ (graph : GraphData). g.M.Columns.fits c.self.inside.stage graph) (sym c.graph-graph.ensures.value)
+    (subst (λ (s : HeldSession _). g.M.Columns.fits s.stage s.core.circuit.graph) (sym c.self.view_is) c.requires.fits)
 
 pub returns-clause-report : goal.returns-clause-report
 returns-clause-report g c =

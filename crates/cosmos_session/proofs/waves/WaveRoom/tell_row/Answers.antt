@@ -13,9 +13,9 @@ returns-clause-sent g c =
     let counts = c.args.counts.now in
     let nodes : List ℕ = c.args.nodes.now in
     let values : List Tern = c.deref.result.now in
-    let columns : ℕ = g.M.Stage.columns c.args.stage.now in
+    let columns : ℕ = g.M.Columns.columns c.args.stage.now in
     let told : ℕ → Line = wave_at c.args.n counts (length nodes) values in
-    let meant : ℕ → Line = λ column. Wave c.args.n (count_at counts column).steps (count_at counts column).joined (map (state_at (g.M.Stage.states c.args.stage.now column)) nodes) in
+    let meant : ℕ → Line = λ column. Wave c.args.n (count_at counts column).steps (count_at counts column).joined (map (state_at (g.M.Columns.states c.args.stage.now column)) nodes) in
     let each : (column : ℕ) → column < columns → told column ≡ meant column = λ column inside.
     ap (λ (states : List Tern). Wave c.args.n (count_at counts column).steps (count_at counts column).joined states)
     (rw c.deref.ensures.value (c.push_columns.ensures.each column inside)) in
