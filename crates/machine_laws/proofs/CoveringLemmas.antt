@@ -74,7 +74,7 @@ reads_inside g group node wired reads =
     ]
 
 -- so a group that rests, rests with new nodes behind
-rests_grown : (g : GraphData) (group : Group) (state : List Tern) (count : ℕ) → IsWired g → IsGroup g group → length state ≡ nodes g →
+pub rests_grown : (g : GraphData) (group : Group) (state : List Tern) (count : ℕ) → IsWired g → IsGroup g group → length state ≡ nodes g →
     Rests g state group.members → Rests g (state ++ replicate count Unk) group.members
 rests_grown g group state count wired is_group counted rests =
     unread_group_rests g group state (state ++ replicate count Unk) wired is_group
@@ -481,6 +481,16 @@ module _ (g : GraphData) (change : Change) (old : MachineData) (covers : Covers 
                 absurd (cc (touched, untouched))
           ]
 
+      later_then : is_touched_in g change old group ≡ true → length old.parts ≤ k
+      later_then touched =
+          elim (part_cases k part stands has_some) [
+            | inl is ↦ is.later
+            | inr is ↦
+                let same : is.group ≡ group = one_group g is.group group part (still_part k part stands has_some is) is_part in
+                let untouched = subst (λ (one : Group). is_touched_in g change old one ≡ false) same is.untouched in
+                absurd (cc (touched, untouched))
+          ]
+
       still_then : is_touched_in g change old group ≡ false → IsStill g change old cleared now.groups k part
       still_then untouched =
           elim (part_cases k part stands has_some) [
@@ -495,11 +505,13 @@ module _ (g : GraphData) (change : Change) (old : MachineData) (covers : Covers 
     pub follows : Edits g change old after
     follows = record {
       covers = covers_after;
+      count = omega (arith, renews.count, clears.count);
       state = made_state;
       stale = λ k part group stands is_part touched. stale_then k part group stands is_part touched;
       untold = λ k part group stands is_part touched. untold_then k part group stands is_part touched;
       marked = λ k part group stands is_part touched.
           is_stale k part stands (has_some k part group stands is_part) (stale_then k part group stands is_part touched);
+      later = λ k part group stands is_part touched. later_then k part group stands is_part touched;
       stays = λ k part group stands is_part untouched. (still_then k part group stands is_part untouched).stood;
       texts = λ k part group stands is_part untouched.
           still_uses k part stands (has_some k part group stands is_part) (still_then k part group stands is_part untouched);

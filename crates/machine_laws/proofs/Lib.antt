@@ -19,6 +19,7 @@ pub mod RenewingLemmas
 pub mod CountingLemmas
 pub mod TouchedLemmas
 pub mod CoveringLemmas
+pub mod ColumnEdits
 pub mod LastTextsGroups
 pub mod PartGroups
 pub mod HoldingGroups

@@ -1,6 +1,6 @@
 -- What an edit of the graph does to a machine, and what gives its stale parts their codes.
 -- After Bryant, Beatty, Brace, Cho and Sheffler, "COSMOS: A Compiled Simulator for MOS Circuits", 1987.
-use Rattle.std.specs.Prelude.{◌≡◌, ◌≢◌, ℕ, ◌-◌, ◌<◌, ◌↔◌, min, Bool, true, false, List, ◌++◌, length, replicate, None, Some, slice_index_or}
+use Rattle.std.specs.Prelude.{◌≡◌, ◌≢◌, ℕ, ◌-◌, ◌<◌, ◌≤◌, ◌↔◌, min, Bool, true, false, List, ◌++◌, length, replicate, None, Some, slice_index_or}
 use Rattle.ternary.specs.declared.tern.Tern.{Tern}
 use Rattle.ternary.specs.declared.tern.Tern.TheVariants.{Unk}
 use Rattle.switch_paths.specs.Graphs.{GraphData, nodes}
@@ -8,7 +8,7 @@ use Rattle.group_meaning.specs.Groups.{Group}
 use Rattle.channel_groups.specs.declared.change.Change.{Change}
 use Rattle.channel_groups.specs.Changes.{is_touched_now}
 use Rattle.machine_parts.specs.declared.part.MachinePart.{MachinePart}
-use Rattle.machine_parts.specs.Parts.{Stands}
+use Rattle.machine_parts.specs.Parts.{Stands, HasMember}
 use Rattle.machine_laws.specs.Machines.{MachineData, groups_in}
 use Rattle.machine_parts.specs.Marking.{IsMarked}
 use Rattle.vicinity.specs.Wides.{WideData}
@@ -32,10 +32,11 @@ pub record KeepsWide (count : ℕ) (old new : MachineData) : Type 0 where
       ((k : ℕ) (part : MachinePart) → Stands old.parts k part → (¬ IsOutside wide.graph part) → Stands new.parts k part) → new.wide ≢ None
 
 -- the graph was edited: the machine covers it, new nodes are X and all other nodes stay, each touched group is stale and marked and has no text
--- yet, and the part of every other group stays, with its text, its code and its mark; the groups that are stepped by vicinities are known still if
--- it left them as they were
+-- yet, and its part came behind the others; the part of every other group stays, with its text, its code and its mark; the groups that are stepped
+-- by vicinities are known still if it left them as they were
 pub record Edits (g : GraphData) (change : Change) (old new : MachineData) : Type 0 where
   pub covers : Covers g new
+  pub count : length old.parts ≤ length new.parts
   pub state : new.state ≡ with_new_nodes old.state (nodes g)
   pub stale : (k : ℕ) (part : MachinePart) (group : Group) → Stands new.parts k part → IsPartOf g group part →
       is_touched_in g change old group ≡ true → part.code ≡ None
@@ -43,6 +44,8 @@ pub record Edits (g : GraphData) (change : Change) (old new : MachineData) : Typ
       is_touched_in g change old group ≡ true → slice_index_or new.uses k None ≡ None
   pub marked : (k : ℕ) (part : MachinePart) (group : Group) → Stands new.parts k part → IsPartOf g group part →
       is_touched_in g change old group ≡ true → IsMarked new.marks k
+  pub later : (k : ℕ) (part : MachinePart) (group : Group) → Stands new.parts k part → IsPartOf g group part →
+      is_touched_in g change old group ≡ true → length old.parts ≤ k
   pub stays : (k : ℕ) (part : MachinePart) (group : Group) → Stands new.parts k part → IsPartOf g group part →
       is_touched_in g change old group ≡ false → Stands old.parts k part
   pub texts : (k : ℕ) (part : MachinePart) (group : Group) → Stands new.parts k part → IsPartOf g group part →
@@ -64,10 +67,11 @@ pub record KeepsCoded (old new : MachineData) : Type 0 where
   pub placed : new.placed ≡ old.placed
 
 -- the stale parts got their codes, or are stepped by vicinities: the machine fits the graph, whose groups' texts are those of the last build
--- from now on, and all else stays
+-- from now on, each part has the members that it had, and all else stays
 pub record Finishes (g : GraphData) (old new : MachineData) : Type 0 where
   pub fits : FitsGraph g new
   pub last : HasLast g new.last
+  pub members : (k node : ℕ) → HasMember new.parts k node ↔ HasMember old.parts k node
   pub still : KeepsCoded old new
   pub open still use *
 
@@ -75,6 +79,7 @@ pub record Finishes (g : GraphData) (old new : MachineData) : Type 0 where
 pub record MakesReady (g : GraphData) (old new : MachineData) : Type 0 where
   pub fits : FitsGraph g new
   pub last : new.last ≡ old.last
+  pub members : (k node : ℕ) → HasMember new.parts k node ↔ HasMember old.parts k node
   pub still : KeepsCoded old new
   pub open still use *
 

@@ -2,7 +2,7 @@
 //!
 //! Each function here does nothing: its contract is the law, and its proof proves it. So a law can be
 //! cited like any other contract.
-ghost use Rattle.machine_laws.specs.Columns.{ColumnsStepApart, ColumnsJoinApart, MarkedMachinesFit};
+ghost use Rattle.machine_laws.specs.Columns.{ColumnsStepApart, ColumnsJoinApart, MarkedMachinesFit, EditsKeepColumns, EditsAddNoTexts, FinishesKeepColumns, FittingMachinesFitAll};
 ghost use Rattle.machine_laws.specs.Laws.{StepsAreUnitSteps, JoiningStepsAreJoinSteps, PlacingKeepsCover, PlacingKeepsFit, AlikeGroupsKeepTheirParts, EmptyPlacesAreCovered, EmptyPlacesKeepTexts, BuiltTextsAreKept, MoreTextsAreKept, StepsKeepTexts, PlacingKeepsTexts, FittingMachinesShareTexts, EditsKeepTexts};
 
 /// A step of a machine that fits a graph is the unit step of the graph, and the machine fits the graph
@@ -24,6 +24,18 @@ pub fn columns_step_apart()
     ensures plain { ColumnsStepApart }
     ensures joining { ColumnsJoinApart }
     ensures marked { MarkedMachinesFit }
+{}
+
+/// The columns of a machine stay through edits, if no group is stepped by vicinities.
+///
+/// `edited`: a column covers the graph after an edit, if the parts are marked that came behind the others and no mark
+/// is lost. `untold`: no stale part has a text, if none had one. `finished`: a column fits the graph once the stale parts have
+/// their codes. `fitting`: no group of a graph that such a machine fits is too large for a text.
+pub fn columns_stay_through_edits()
+    ensures edited { EditsKeepColumns }
+    ensures untold { EditsAddNoTexts }
+    ensures finished { FinishesKeepColumns }
+    ensures fitting { FittingMachinesFitAll }
 {}
 
 /// A machine that covers or fits a graph does so after a node was placed: the parts that have the node as

@@ -1,7 +1,8 @@
 //! Which parts are marked, and the list of these.
-ghost use Rattle.std.specs.Prelude.{◌≡◌, ℕ, ◌<◌, true, false, slice_set, length, replicate, Contains, IfOk, IfSome};
+ghost use Rattle.std.specs.Prelude.{◌≡◌, ℕ, ◌<◌, [], ◌∷◌, ◌++◌, true, false, slice_set, length, replicate, Contains, IfOk, IfSome, OnOk, OnErr};
 ghost use Rattle.std.specs.Option.{IfNone};
 ghost use Rattle.machine_parts.specs.Marking.{IsMarked, MarksAll};
+ghost use Rattle.part_lists.specs.Growing.{AddsMarked};
 
 use part_steps::numbers_below;
 use std::alloc::{AllocError, Global};
@@ -48,6 +49,26 @@ impl Agenda {
         }
     }
 
+    /// How many parts there are.
+    pub fn parts(&self) -> usize
+        ensures { result ≡ length self.now }
+    {
+        self.marks.len()
+    }
+
+    /// Adds a part, which is marked. Out of memory the marks stay.
+    pub fn add(&mut self) -> Result<(), AllocError>
+        ensures ok { OnOk result (self.new ≡ self.old ++ true ∷ []) }
+        ensures err { OnErr result (self.new ≡ self.old) }
+    {
+        self.marks.reserve(1)?;
+        let more = (self.marks.len() + 1).saturating_sub(self.work.len());
+        self.work.reserve(more)?;
+        self.work.push_reserved(self.marks.len());
+        self.marks.push_reserved(true);
+        Ok(())
+    }
+
     /// Takes a marked part out of the list, and clears its mark; None if none is marked.
     pub fn pop(&mut self) -> Option<usize>
         ensures marked { IfSome result (λ k. IsMarked self.old k) }
@@ -69,4 +90,14 @@ pub fn mark_all(parts: &[usize], agenda: &mut Agenda)
     for k in parts {
         agenda.mark(*k);
     }
+}
+
+/// Adds parts that are marked, up to so many. Out of memory some may be there.
+pub fn add_marked(parts: usize, agenda: &mut Agenda) -> Result<(), AllocError>
+    ensures { OnOk result (AddsMarked parts agenda.old agenda.new) }
+{
+    for _part in agenda.parts()..parts {
+        agenda.add()?;
+    }
+    Ok(())
 }

@@ -9,11 +9,12 @@
 //! two inverters a -> b -> c, parts 0 and 1: for b those that read it are part 1, those that have it are part 0
 //! ```
 //!
-//! For the proofs of crates above: `ListLemmas` (lists that grow, and marks by lists).
+//! For the proofs of crates above: `ListLemmas` (lists that grow, and marks by lists), `AgendaLemmas` (marks that come
+//! behind the others).
 #![tactic(auto)]
 
 mod agenda;
 mod lists;
 
-pub use agenda::{Agenda, mark_all};
+pub use agenda::{Agenda, add_marked, mark_all};
 pub use lists::{lists_of, most_members};

@@ -147,6 +147,7 @@ Finishes-settled g old mid new makes_ready same order =
     subst (Finishes g old) (sym same) (record {
       fits = FitsGraph-last g mid makes_ready.fits new.last;
       last = HasLast-settled g old mid new makes_ready same order;
+      members = makes_ready.members;
       still = keeps_same old mid new.last mid.wide makes_ready.still;
     })
 
@@ -159,5 +160,6 @@ MakesReady-next large g old mid new coded holding covers wakes few railed sound 
       fits = FitsGraph-next large g mid wakes.ready few railed (subst IsSound (sym wakes.state) sound) holding
           (next_woken g old mid coded covers wakes large holding next);
       last = wakes.last;
+      members = wakes.members;
       still = keeps_same old mid mid.last (wide_after large mid.wide holding) wakes.still;
     })

@@ -1,5 +1,5 @@
 -- A machine whose stale parts got their codes.
-use Rattle.std.proofs.Common.{◌≡◌, ℕ, zero, suc, ◌<◌, ◌≤◌, inl, inr, Bool, List, [], ◌∷◌, length, map, get_or, All, Option, Some, None, Vec, Global, refl, sym, ap, subst, ◌∙◌, arith}
+use Rattle.std.proofs.Common.{◌≡◌, ◌≢◌, ℕ, zero, suc, ◌<◌, ◌≤◌, inl, inr, Bool, List, [], ◌∷◌, length, map, get_or, All, Option, Some, None, Vec, Global, refl, sym, ap, subst, ◌∙◌, arith}
 use Rattle.std.specs.Prelude.{◌↔◌, Contains, slice_get, slice_index_or, unwrap_or, zip}
 use Rattle.std.specs.List.{AllZip}
 use Rattle.std.specs.Option.{option_and_then}
@@ -36,7 +36,7 @@ use Rattle.machine_laws.proofs.LastTextsGroups.{first_member}
 use Rattle.machine_parts.proofs.MakingLemmas.{formed_parts, reads_inside}
 use Rattle.unit_step.proofs.BuildLemmas.{fresh_parts, lists_inside}
 use Rattle.unit_step.specs.declared.waking.Risen.{Risen}
-use Rattle.unit_step.specs.Waking.{AreMade, IsRisen, Wakes}
+use Rattle.unit_step.specs.Waking.{AreMade, HaveCode, IsRisen, Wakes}
 use Rattle.unit_step.proofs.FinishingFits.{IsReady-covered}
 use Rattle.machine_laws.proofs.StayingParts.{HasMember-was, HasMember-now, members_sum, members_count, AreOwners-new, one_place, stale_stays, stays_stale, IsRunnable-new, told_new, Covers-readied, parts_readied}
 
@@ -180,6 +180,21 @@ module _ (g : GraphData) (wired : IsWired g) (groups some : List Group) (slots :
             let (group, at, slot) = partner_first (IsSlotOf g old) some slots i k waiting.slots_are (slice_get-get_or slots i d within) in
             slot.stands.inside;
       })
+
+-- parts that are made with their codes have them
+have_code : (pairs : List (Part × Vec ℕ Global)) (i : ℕ) (part : MachinePart) → slice_get (map held pairs) i ≡ Some part → part.code ≢ None
+have_code [] i part at none =
+    let inside : i < 0 = slice_get_within [] i part at in
+    omega (arith, inside)
+have_code ((first, reads) ∷ pairs) zero part at none =
+    let both : Some (held (first, reads)) ≡ Some part = at in
+    let same : held (first, reads) ≡ part = cc in
+    absurd (cc (ap (λ (one : MachinePart). one.code) same, none))
+have_code (pair ∷ pairs) (suc i) part at none = have_code pairs i part at none
+
+pub held_have_code : (parts : List Part) (reads : List (Vec ℕ Global)) (fresh : List MachinePart) →
+    fresh ≡ map held (zip parts reads) → HaveCode fresh
+held_have_code parts reads fresh is i part at = have_code (zip parts reads) i part (subst (λ (list : List MachinePart). slice_get list i ≡ Some part) is at)
 
 -- the slots of the parts that get their codes are there
 pub coded_below : (g : GraphData) (m : MachineData) (risen : Risen) → IsRisen g m risen → All (λ k. k < length m.parts) risen.coded.items

@@ -98,7 +98,7 @@ module _ (large : ℕ) (g : GraphData) (m : MachineData) (ready : IsReady g m) (
 
 module _ (g : GraphData) (old mid : MachineData) (coded : List ℕ) (covers : Covers g old) (wakes : Wakes g coded old mid) where
   -- a part that waits still has the group that it had
-  same_group : (k : ℕ) (was part : MachinePart) (one group : Group) → Stands old.parts k was → Stands mid.parts k part → IsPartOf g one was → IsPartOf g group part →
+  pub same_group : (k : ℕ) (was part : MachinePart) (one group : Group) → Stands old.parts k was → Stands mid.parts k part → IsPartOf g one was → IsPartOf g group part →
       one ≡ group
   same_group k was part one group stood stands was_part is_part =
       let node = id_of group in

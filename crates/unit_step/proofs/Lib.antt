@@ -18,3 +18,4 @@ pub mod WakingLemmas
 pub mod FinishingOrder
 pub mod RestartingLemmas
 pub mod BesideLemmas
+pub mod AmongLemmas

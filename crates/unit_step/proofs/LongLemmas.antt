@@ -11,6 +11,12 @@ use Rattle.vicinity.specs.Wides.{WideData}
 use Rattle.wide_groups.specs.Staying.{HoldsNode}
 use Rattle.machine_laws.specs.Finishing.{IsLoosened, Loosens}
 
+-- if no group is stepped by vicinities, no node is a member of one
+pub none_holds : (wide : Option WideData) → wide ≡ None → (node : ℕ) → ¬ HoldsNode wide node
+none_holds wide none node holds =
+    let inside : node < 0 = (subst (λ (known : Option WideData). HoldsNode known node) none holds).inside in
+    omega (arith, inside)
+
 -- if no part loses its code, all stay
 pub Loosens-same : (parts : List MachinePart) → Loosens parts parts
 Loosens-same parts = record {

@@ -1,5 +1,5 @@
 -- If no group is due, each part that waits is that of a group that is stepped by vicinities already: nothing is woken, and nothing is analysed.
-use Rattle.std.proofs.Common.{◌≡◌, ℕ, false, true, inl, inr, List, [], ◌∷◌, length, filter, get_or, Some, None, refl, sym, ap, subst, ◌∙◌, arith, append-nil}
+use Rattle.std.proofs.Common.{◌≡◌, ◌<◌, ℕ, false, true, inl, inr, List, [], ◌∷◌, length, filter, get_or, Some, None, refl, sym, ap, subst, ◌∙◌, arith, append-nil}
 use Rattle.std.specs.Prelude.{Contains, not, slice_get}
 use Rattle.std.proofs.lemmas.Bool.{cases_Bool}
 use Rattle.std.proofs.lemmas.List.Elements.{All-nil}
@@ -16,7 +16,8 @@ use Rattle.wide_groups.specs.Staying.{HoldsNode}
 use Rattle.machine_parts.specs.declared.part.MachinePart.{MachinePart}
 use Rattle.machine_parts.specs.Parts.{Stands}
 use Rattle.machine_laws.specs.Machines.{MachineData, groups_in}
-use Rattle.machine_laws.specs.Fitting.{IsPartOf, Covers, AreTold, IsKeptBy}
+use Rattle.machine_laws.specs.Fitting.{IsPartOf, Covers, AreTold, AreUntold, IsKeptBy}
+use Rattle.machine_laws.specs.Columns.{HasNoTexts}
 use Rattle.machine_laws.specs.Finishing.{HasText, AreWaiting}
 use Rattle.machine_laws.proofs.FilterLemmas.{filter_keeps}
 use Rattle.machine_laws.proofs.HeldLemmas.{known_or_not}
@@ -25,9 +26,11 @@ use Rattle.machine_laws.proofs.PartGroups.{some_members}
 use Rattle.machine_laws.proofs.FinishingWaiting.{first_is}
 use Rattle.machine_laws.proofs.FinishingBuilds.{waiting_texts}
 use Rattle.unit_step.specs.Holding.{IsPassed, HoldsAll}
-use Rattle.unit_step.specs.Waking.{AreDue, Wakes}
+use Rattle.unit_step.specs.declared.waking.Risen.{Risen}
+use Rattle.unit_step.specs.Waking.{AreDue, HaveCode, IsRisen, Wakes}
 use Rattle.unit_step.proofs.DueLemmas.{passed_told}
 use Rattle.unit_step.proofs.FinishingFits.{IsReady-covered}
+use Rattle.unit_step.proofs.HoldingLemmas.{same_group}
 
 -- no item passes the test that none passes
 none_pass : {X : Type 0} (xs : List X) → [] ≡ filter (λ (_ : X). false) xs
@@ -137,3 +140,24 @@ module _ (g : GraphData) (m : MachineData) (covers : Covers g m) (large : ℕ) (
     analysed = sym (append-nil before);
     number = refl;
   }
+
+-- where all get their codes that are due, and no stale part had a text, only the groups without a text are stale
+pub woken_untold : (g : GraphData) (old mid : MachineData) (risen : Risen) → Covers g old → IsRisen g old risen → Wakes g risen.coded.items old mid →
+    HaveCode risen.parts.items → HasNoTexts old → AreUntold g mid.parts
+woken_untold g old mid risen covers is wakes have none k part group stands stale is_part fits =
+    let slots = risen.slots.items in
+    let fresh = risen.parts.items in
+    let goes = (wakes.stale k).0 (record { part = part; stands = stands; some = some_members is_part; none = stale }) in
+    let was = goes.stale in
+    let (one, was_part) = covers.whole k was.part was.stands was.some in
+    let same : one ≡ group = same_group g old mid risen.coded.items covers wakes k was.part part one group was.stands stands was_part is_part in
+    let before : IsPartOf g group was.part = subst (λ (it : Group). IsPartOf g it was.part) same was_part in
+    elim (is.waiting.all k was.part group was.stands was.none before fits) [
+      | inr numbered ↦ numbered (none k was)
+      | inl (i, inside, here) ↦
+          let slot : slice_get slots i ≡ Some k = slice_get_read slots (length slots) i k refl inside (sym here) in
+          let within : i < length fresh = omega (arith, inside, is.made.counted) in
+          let now = get_or fresh i part in
+          let there : slice_get fresh i ≡ Some now = slice_get-get_or fresh i part within in
+          goes.other ((is.coded k).1 (record { i = i; slot = slot; part = now; there = there; coded = have i now there }))
+    ]

@@ -6,3 +6,5 @@ pub mod Listing
 pub mod Holding
 pub mod Restarting
 pub mod Beside
+pub mod Among
+pub mod Columns

@@ -1,5 +1,5 @@
 -- What is found of the parts that wait before they get their codes.
-use Rattle.std.specs.Prelude.{◌≡◌, ℕ, ◌<◌, ◌⊎◌, ◌↔◌, Bool, true, List, [], ◌∷◌, ◌++◌, length, map, filter, All, Contains, Option, None}
+use Rattle.std.specs.Prelude.{◌≡◌, ◌≢◌, ℕ, ◌<◌, ◌⊎◌, ◌↔◌, Bool, true, List, [], ◌∷◌, ◌++◌, length, map, filter, All, Contains, Option, None, Some, slice_get}
 use Rattle.std.specs.List.{AllZip}
 use Rattle.switch_paths.specs.Graphs.{GraphData, nodes}
 use Rattle.group_meaning.specs.Groups.{Group, AreGroups, id_of}
@@ -74,6 +74,10 @@ pub record IsRisen (g : GraphData) (m : MachineData) (risen : Risen) : Type 0 wh
   pub made : AreMade g some risen.slots.items m.parts risen.parts.items (nodes g)
   pub coded : (k : ℕ) → Contains risen.coded.items k ↔ HasCodeIn risen.slots.items risen.parts.items k
   pub free : LoosensHeld m.wide risen.parts.items
+
+-- each of these parts has code
+abbrev pub HaveCode : List MachinePart → Type 0
+HaveCode parts = (i : ℕ) (part : MachinePart) → slice_get parts i ≡ Some part → part.code ≢ None
 
 -- the stale parts of groups with a text got their texts, those in these slots their codes, and all else stays: the members of stale parts are those
 -- that were, but for those of the slots

@@ -10,12 +10,13 @@ ghost use Rattle.kept_parts.specs.Uses.{some_texts};
 ghost use Rattle.machine_parts.specs.declared.part.MachinePart.{MachinePart};
 ghost use Rattle.machine_parts.specs.Parts.{Stands};
 ghost use Rattle.machine_laws.specs.Words.{Covers, IsKeptBy, Finishes, MakesReady, StaysKnown, AreInOrder};
+ghost use Rattle.machine_laws.specs.Columns.{HasNoTexts};
 ghost use Rattle.unit_step.specs.LastTexts.{IsLeft};
 ghost use Rattle.unit_step.specs.Holding.{HoldsNextIn};
-ghost use Rattle.unit_step.specs.Waking.{AreDue, IsWaking, IsRisen, Wakes};
+ghost use Rattle.unit_step.specs.Waking.{AreDue, HaveCode, IsWaking, IsRisen, Wakes};
 
 use crate::holding::Holding;
-use crate::long::{coded_of, long_texts, loosen_waking};
+use crate::long::{Codes, coded_of, long_texts, loosen_unless_all};
 use crate::machine::Machine;
 use crate::making_ready::{numbers_of, put_texts};
 use crate::waking::{Risen, Waking, has_no_group, ids_at, least_members, owners_of};
@@ -38,7 +39,8 @@ impl Machine {
     /// the machine is as before, and nothing was moved or cut.
     ///
     /// A group that is too large for a text is refused if it has more members than `large`. Else its part stays stale, and
-    /// the group is stepped by vicinities. If there are such groups that weren't stepped so before, all nodes of all such
+    /// the group is stepped by vicinities; so is one whose code is long, unless all codes are asked for and no group was stepped so
+    /// before. If there are such groups that weren't stepped so before, all nodes of all such
     /// groups are touched; else only the bound changes, if this one is smaller. The work is that of the parts that wait.
     ///
     /// An analyst that held exactly the texts that were kept holds exactly those that are kept, and after a refusal
@@ -47,6 +49,7 @@ impl Machine {
         &mut self,
         graph: &Graph,
         large: usize,
+        codes: Codes,
         kept: &mut Kept,
         analyst: &mut A,
     ) -> Result<u64, BuildFault>
@@ -57,6 +60,7 @@ impl Machine {
         requires last { All (λ text. IsTrue (is_among (texts_of kept.old) text)) self.old.last }
         ensures finishes { OnOk result (Finishes graph.now self.old self.new) }
         ensures stays { OnOk result (StaysKnown large self.old self.new) }
+        ensures without { OnOk result (codes ≡ Codes.All → large ≡ 0 → self.old.wide ≡ None → HasNoTexts self.old → self.new.wide ≡ None) }
         ensures builds { IfOk result (Builds large graph.now kept.old.bound (used_texts self.old.last (texts_of kept.old)) (used_texts self.new.last (texts_of kept.new))
             (A.analysed analyst.old) (A.analysed analyst.new)) }
         ensures there { OnOk result (All (λ text. IsTrue (is_among (texts_of kept.new) text)) self.new.last) }
@@ -70,7 +74,7 @@ impl Machine {
         ensures holds { OnOk result (HoldsKept kept.old (A.held analyst.old) → HoldsKept kept.new (A.held analyst.new)) }
         ensures nearly { OnErr result (HoldsKept kept.old (A.held analyst.old) → HoldsNearlyKept kept.new (A.held analyst.new)) }
     {
-        let fresh = self.wake(graph, large, kept, analyst)?;
+        let fresh = self.wake(graph, large, codes, kept, analyst)?;
         self.settle_last(kept, analyst);
         Ok(fresh)
     }
@@ -81,6 +85,7 @@ impl Machine {
         &mut self,
         graph: &Graph,
         large: usize,
+        codes: Codes,
         kept: &mut Kept,
         analyst: &mut A,
     ) -> Result<u64, BuildFault>
@@ -90,6 +95,7 @@ impl Machine {
         requires known { IsKeptBy graph.now (texts_of kept.old) self.old }
         ensures makes_ready { OnOk result (MakesReady graph.now self.old self.new) }
         ensures stays { OnOk result (StaysKnown large self.old self.new) }
+        ensures without { OnOk result (codes ≡ Codes.All → large ≡ 0 → self.old.wide ≡ None → HasNoTexts self.old → self.new.wide ≡ None) }
         ensures fills { IfOk result (Fills large graph.now (texts_of kept.old) (texts_of kept.new) (A.analysed analyst.old) (A.analysed analyst.new)) }
         ensures bound { kept.new.bound ≡ kept.old.bound }
         ensures cut_off { result ≡ Err BuildFault.NoMemory → IsCutOff large graph.now (texts_of kept.old) (texts_of kept.new) (A.analysed analyst.old) (A.analysed analyst.new) }
@@ -107,7 +113,7 @@ impl Machine {
         }
         let waking = self.waking(graph, &sizes)?;
         let fresh = kept.fill(&waking.texts, analyst)?;
-        let risen = self.risen(graph, waking, kept)?;
+        let risen = self.risen(graph, codes, waking, kept)?;
         let holding = self.holding(graph, large, &risen.coded)?;
         self.make_ready(graph, risen)?;
         self.hold(large, holding);
@@ -116,7 +122,7 @@ impl Machine {
 
     // The ids of the groups whose parts wait. Those are passed over that are stepped by vicinities already, unless one of
     // these has more members than `large`.
-    fn due(&self, graph: &Graph, large: usize) -> Result<GroupSizes, BuildFault>
+    pub(crate) fn due(&self, graph: &Graph, large: usize) -> Result<GroupSizes, BuildFault>
         requires covers { Covers graph.now self.now }
         ensures due { IfOk result (AreDue graph.now self.now large) }
         ensures few { OnOk result (NoneRefused large graph.now) }
@@ -200,11 +206,18 @@ impl Machine {
 
     // What the parts become whose groups are due and have a text, which is kept.
     #[inline(never)]
-    fn risen(&self, graph: &Graph, waking: Waking, kept: &Kept) -> Result<Risen, NoMemory>
+    fn risen(
+        &self,
+        graph: &Graph,
+        codes: Codes,
+        waking: Waking,
+        kept: &Kept,
+    ) -> Result<Risen, NoMemory>
         requires covers { Covers graph.now self.now }
         requires waking { IsWaking graph.now self.now waking }
         requires kept { All (λ text. IsTrue (is_among (texts_of kept.now) text)) waking.texts.items }
-        ensures { IfOk result (IsRisen graph.now self.now) }
+        ensures risen { IfOk result (IsRisen graph.now self.now) }
+        ensures all { IfOk result (λ risen. codes ≡ Codes.All → self.now.wide ≡ None → HaveCode risen.parts.items) }
     {
         graphs_are_wired(graph);
         let alloc = *self.body.parts.allocator();
@@ -217,7 +230,7 @@ impl Machine {
         let mut parts = parts_with_reads(alloc, parts_of(alloc, kept, &texts, maps)?, reads)?;
         let (wide, uses) = (&self.body.wide, &self.body.uses);
         let fresh = long_texts(alloc, kept.keys(), uses, &slots, &texts, &parts)?;
-        loosen_waking(alloc, wide, uses, &fresh, &texts, &mut parts);
+        loosen_unless_all(alloc, codes, wide, uses, &fresh, &texts, &mut parts);
         let coded = coded_of(alloc, &slots, &parts)?;
         Ok(Risen {
             slots,

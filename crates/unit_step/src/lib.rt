@@ -16,6 +16,9 @@
 //! a step runs its code: out takes 1              the part is not marked, until a is placed anew
 //! ```
 //!
+//! A machine of many columns goes by a `Machine` that doesn't step itself: what it uses of it, up to the codes, which run on
+//! words, is in `columns`.
+//!
 //! What a step reads and runs is in `part_steps`, and the laws are in `machine_laws`, which the proofs of crates
 //! above cite, as they do `machine_parts`.
 //!
@@ -23,8 +26,10 @@
 //! 1987.
 #![tactic(auto)]
 
+mod among;
 mod beside;
 mod body;
+mod columns;
 mod editing;
 mod finishing;
 mod growing;
@@ -47,8 +52,8 @@ pub use laws::limits_are_as_stated;
 pub use long::Codes;
 pub use machine::Machine;
 pub use machine_laws::{
-    alike_groups_keep_their_parts, columns_step_apart, empty_places_are_covered,
-    machines_have_kept_texts, placing_keeps_fits, steps_are_unit_steps,
+    alike_groups_keep_their_parts, columns_stay_through_edits, columns_step_apart,
+    empty_places_are_covered, machines_have_kept_texts, placing_keeps_fits, steps_are_unit_steps,
 };
 pub use machine_parts::MachinePart;
 pub use part_steps::{Needs, needs_of, numbers_below};

@@ -90,9 +90,52 @@ pub(crate) fn long_texts(
     Ok(fresh)
 }
 
+// Takes their code from these parts as `loosen_waking` does, unless all are to have theirs and no group is stepped by
+// vicinities.
+pub(crate) fn loosen_unless_all(
+    alloc: Global,
+    codes: Codes,
+    wide: &Option<Wide>,
+    uses: &TextUses,
+    fresh: &TextUses,
+    texts: &[GroupText],
+    parts: &mut [MachinePart],
+)
+    requires texts { length texts.now ≡ length parts.old }
+    requires some { All (λ part. 0 < length part.map.items) parts.old }
+    ensures loosens { Loosens parts.old parts.new }
+    ensures held { LoosensHeld wide.now parts.new }
+    ensures all { codes ≡ Codes.All → wide.now ≡ None → parts.new ≡ parts.old }
+{
+    if have_all(codes, wide) {
+        return;
+    }
+    loosen_waking(alloc, wide, uses, fresh, texts, parts);
+}
+
+// Whether all parts are to have their codes and no group is stepped by vicinities.
+fn have_all(codes: Codes, wide: &Option<Wide>) -> bool
+    ensures { (result ≡ true) ↔ ((codes ≡ Codes.All) × (wide.now ≡ None)) }
+{
+    match wide {
+        Some(_wide) => false,
+        None => are_all(codes),
+    }
+}
+
+// Whether all parts are to have their codes.
+fn are_all(codes: Codes) -> bool
+    ensures { (result ≡ true) ↔ (codes ≡ Codes.All) }
+{
+    match codes {
+        Codes::All => true,
+        Codes::Short => false,
+    }
+}
+
 // Takes their code from these parts, which have these texts, if it is long and isn't that of many, or if the part that
 // stands in the slot is stepped by vicinities already. With them come the texts of `fresh`.
-pub(crate) fn loosen_waking(
+fn loosen_waking(
     alloc: Global,
     wide: &Option<Wide>,
     uses: &TextUses,

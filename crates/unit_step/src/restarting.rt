@@ -51,8 +51,8 @@ impl Machine {
         self.set_node(graph, node, value);
     }
 
-    // Marks all parts.
-    fn mark_all_parts(&mut self)
+    /// Marks all parts. It takes no memory.
+    pub fn mark_all_parts(&mut self)
         ensures { MarksParts self.old self.new }
     {
         mark_below(self.body.parts.len(), &mut self.body.agenda);

@@ -1,10 +1,11 @@
 -- What is woken fits the graph, and with the texts of the last build in front it leaves what a build leaves.
-use Rattle.std.proofs.Common.{◌≡◌, true, All, sym, subst}
+use Rattle.std.proofs.Common.{◌≡◌, true, All, sym, ap, subst, ◌∙◌}
 use Rattle.std.proofs.lemmas.Result.{err_from_is_err_and}
 use Rattle.group_text.specs.FirstTexts.{is_among}
 use Rattle.group_analysis.specs.Using.{used_texts}
 use Rattle.analysis_cache.specs.Keeping.{texts_of}
 use Rattle.circuit_texts.specs.Building.{Builds}
+use Rattle.machine_laws.specs.Machines.{MachineData}
 use Rattle.machine_laws.specs.Editing.{StaysKnown}
 use Rattle.machine_laws.proofs.FillingLemmas.{on_err}
 use Rattle.unit_step.specs.LastTexts.{IsLeft}
@@ -64,3 +65,7 @@ pub returns-clause-stays : goal.returns-clause-stays
 returns-clause-stays g c =
     subst (StaysKnown c.args.large c.args.self.now) (sym c.settle_last.ensures.same)
     (StaysKnown-last c.args.large c.args.self.now c.wake.new.self c.settle_last.new.self.last c.in_ok-fresh.ensures.stays)
+
+pub returns-clause-without : goal.returns-clause-without
+returns-clause-without g c = λ all zero_is none untold.
+    ap (λ (m : MachineData). m.wide) c.settle_last.ensures.same ∙ c.in_ok-fresh.ensures.without all zero_is none untold

@@ -1,5 +1,5 @@
 -- The parts of the groups that are due, of which some lose their codes before the machine has them.
-use Rattle.std.proofs.Common.{◌≡◌, ◌≤◌, List, length, sym, ap, subst, ◌∙◌, arith}
+use Rattle.std.proofs.Common.{◌≡◌, ◌≤◌, List, None, length, sym, ap, subst, ◌∙◌, arith}
 use Rattle.std.specs.Vec.{with_items}
 use Rattle.std.proofs.lemmas.List.{length-map, with_items_is}
 use Rattle.group_text.specs.Texts.{text_of_group}
@@ -7,8 +7,8 @@ use Rattle.kept_parts.proofs.GroupParts.{parts_of_groups}
 use Rattle.machine_parts.specs.declared.part.MachinePart.{MachinePart}
 use Rattle.machine_laws.specs.Machines.{MachineData}
 use Rattle.machine_laws.specs.Finishing.{Loosens, LoosensHeld}
-use Rattle.unit_step.specs.Waking.{AreMade}
-use Rattle.unit_step.proofs.FinishingReadied.{AreMade-held, AreMade-loosened, parts_counted, has_nodes}
+use Rattle.unit_step.specs.Waking.{AreMade, HaveCode}
+use Rattle.unit_step.proofs.FinishingReadied.{AreMade-held, AreMade-loosened, held_have_code, parts_counted, has_nodes}
 use Rattle.unit_step.proofs.machine.Machine.risen.Goals.{In_ok-parts}
 use Rattle.unit_step.proofs.machine.Machine.risen.Goals as goal
 
@@ -48,9 +48,9 @@ long_texts-requires c =
       inside = λ i d inside. omega (arith, made.inside i d inside, counted);
     })
 
-pub loosen_waking-requires : goal.loosen_waking-requires
-loosen_waking-requires c =
-    let made = parts_made (goal.at.loosen_waking-requires c).In_ok-parts in
+pub loosen_unless_all-requires : goal.loosen_unless_all-requires
+loosen_unless_all-requires c =
+    let made = parts_made (goal.at.loosen_unless_all-requires c).In_ok-parts in
     let waking = c.requires.waking in
     let texts_long : length c.args.waking.texts.items ≡ length c.args.waking.slots.items =
     ap length waking.texts ∙ length-map waking.some (text_of_group c.args.graph.now) ∙ made.long in
@@ -62,25 +62,25 @@ loosen_waking-requires c =
 pub coded_of-requires : goal.coded_of-requires
 coded_of-requires c =
     let made = parts_made (goal.at.coded_of-requires c).In_ok-parts in
-    let now = c.loosen_waking.new.parts in
-    let final = with_items_is c.in_ok-parts.parts now (omega (arith, c.loosen_waking.auto.parts, c.deref_mut.ensures.len)) in
+    let now = c.loosen_unless_all.new.parts in
+    let final = with_items_is c.in_ok-parts.parts now (omega (arith, c.loosen_unless_all.auto.parts, c.deref_mut.ensures.len)) in
     let slots : length c.deref-6.result.now ≡ length c.args.waking.slots.items = ap length c.deref-6.ensures.value in
     let parts : length c.deref-7.result.now ≡ length now = ap length (c.deref-7.ensures.value ∙ final) in
-    omega (arith, slots, parts, c.loosen_waking.auto.parts, c.deref_mut.ensures.len, made.counted)
+    omega (arith, slots, parts, c.loosen_unless_all.auto.parts, c.deref_mut.ensures.len, made.counted)
 
-pub returns : goal.returns
-returns c =
-    let at = (goal.at.returns c).In_ok-parts in
+pub returns-clause-risen : goal.returns-clause-risen
+returns-clause-risen c =
+    let at = (goal.at.returns-clause-risen c).In_ok-parts in
     let g = c.args.graph.now in
     let m = c.args.self.now in
     let waking = c.requires.waking in
     let made = parts_made at in
     let old = c.in_ok-parts.parts.items in
-    let now = c.loosen_waking.new.parts in
-    let final = with_items_is c.in_ok-parts.parts now (omega (arith, c.loosen_waking.auto.parts, c.deref_mut.ensures.len)) in
+    let now = c.loosen_unless_all.new.parts in
+    let final = with_items_is c.in_ok-parts.parts now (omega (arith, c.loosen_unless_all.auto.parts, c.deref_mut.ensures.len)) in
     let parts : List MachinePart = (with_items c.in_ok-parts.parts now).items in
     let loosens : Loosens old parts =
-    subst (Loosens old) (sym final) (subst (λ list. Loosens list now) c.deref_mut.ensures.value c.loosen_waking.ensures.loosens) in
+    subst (Loosens old) (sym final) (subst (λ list. Loosens list now) c.deref_mut.ensures.value c.loosen_unless_all.ensures.loosens) in
     let wide = ap (λ (one : MachineData). one.wide) c.self.view_is in
     record {
       groups = waking.groups;
@@ -92,5 +92,15 @@ returns c =
       made = subst (AreMade g waking.some c.args.waking.slots.items m.parts parts) c.requires.covers.counted
           (AreMade-loosened g waking.some c.args.waking.slots.items m.parts old parts (length m.state) loosens made);
       coded = rw (c.deref-6.ensures.value, c.deref-7.ensures.value) at c.in_ok-coded.ensures;
-      free = subst (λ known. LoosensHeld known parts) wide (subst (LoosensHeld c.self.inside.body.wide) (sym final) c.loosen_waking.ensures.held);
+      free = subst (λ known. LoosensHeld known parts) wide (subst (LoosensHeld c.self.inside.body.wide) (sym final) c.loosen_unless_all.ensures.held);
     }
+
+-- where all are to have their codes and no group is stepped by vicinities, all keep theirs
+pub returns-clause-all : goal.returns-clause-all
+returns-clause-all c = λ all without.
+    let now = c.loosen_unless_all.new.parts in
+    let final = with_items_is c.in_ok-parts.parts now (omega (arith, c.loosen_unless_all.auto.parts, c.deref_mut.ensures.len)) in
+    let none : c.self.inside.body.wide ≡ None = ap (λ (one : MachineData). one.wide) c.self.view_is ∙ without in
+    let same : (with_items c.in_ok-parts.parts now).items ≡ c.in_ok-parts.parts.items =
+    final ∙ c.loosen_unless_all.ensures.all all none ∙ c.deref_mut.ensures.value in
+    subst HaveCode (sym same) (held_have_code c.in_ok-parts_of.field-0.items c.args.waking.reads.items c.in_ok-parts.parts.items c.in_ok-parts.ensures)

@@ -1,18 +1,20 @@
 -- The parts that wait and whose groups have a text get it, and most of them their codes; the others are held, as before or anew.
-use Rattle.std.proofs.Common.{[], None, get_or, sym, subst}
+use Rattle.std.proofs.Common.{[], None, get_or, refl, sym, ap, subst, ◌∙◌}
 use Rattle.std.proofs.lemmas.Option.{slice_get-get_or}
 use Rattle.switch_paths.specs.Rails.{IsSound}
 use Rattle.group_text.specs.FirstTexts.{new_texts}
 use Rattle.analysis_cache.specs.Keeping.{texts_of}
 use Rattle.circuit_texts.specs.Building.{BuildsFresh}
+use Rattle.circuit_texts.specs.Sizes.{NoneRefused}
+use Rattle.machine_laws.specs.Machines.{MachineData}
 use Rattle.machine_laws.specs.Editing.{MakesReady}
 use Rattle.analysis_cache.proofs.HoldingLemmas.{HoldsNearlyKept-same}
 use Rattle.machine_laws.proofs.FillingLemmas.{on_err, IsGrown-same, IsGrown-filled, IsGrown-cut_off, Fills-filled, cut_off_front, cut_off_end}
 use Rattle.machine_laws.proofs.FinishingBuilds.{waiting_texts}
 use Rattle.unit_step.specs.Holding.{HoldsNextIn}
 use Rattle.unit_step.proofs.FinishingOrder.{MakesReady-next}
-use Rattle.unit_step.proofs.HoldingLemmas.{HoldsWide-next, next_woken, StaysKnown-next}
-use Rattle.unit_step.proofs.WakingLemmas.{all_held, Wakes-none, Fills-none}
+use Rattle.unit_step.proofs.HoldingLemmas.{HoldsWide-next, next_woken, none_after, none_held, StaysKnown-next}
+use Rattle.unit_step.proofs.WakingLemmas.{all_held, woken_untold, Wakes-none, Fills-none}
 use Rattle.unit_step.proofs.machine.Machine.wake.Given.{Over}
 use Rattle.unit_step.proofs.machine.Machine.wake.Goals.{In_ok-waking, In_ok-holding, After-hold-2}
 use Rattle.unit_step.proofs.machine.Machine.wake.Goals as goal
@@ -175,3 +177,24 @@ returns-clause-fills g c =
 pub returns-clause-grown : goal.returns-clause-grown
 returns-clause-grown g c =
     IsGrown-filled c.args.large c.args.graph.now c.args.kept.now c.fill.new.self _ _ _ _ c.deref.result.now c.in_ok-fresh.fresh c.in_ok-fresh.ensures.ok
+
+-- if no group is due, none comes to be stepped by vicinities
+pub returns-then-has_no_group-clause-without : goal.returns-then-has_no_group-clause-without
+returns-then-has_no_group-clause-without g c = λ all zero_is none untold.
+    ap (λ (m : MachineData). m.wide) c.hold.ensures ∙ none_after c.args.large c.args.self.now.wide None none refl
+
+-- nor if all groups get their codes, and none is too large for a text
+pub returns-clause-without : goal.returns-clause-without
+returns-clause-without g c = λ all zero_is none untold.
+    let graph = c.args.graph.now in
+    let m = c.args.self.now in
+    let mid = c.make_ready.new.self in
+    let risen = c.in_ok-risen.risen in
+    let wakes = c.in_ok-make_ready.ensures.wakes in
+    let holding = c.in_ok-holding.holding in
+    let next = next_woken graph m mid risen.coded.items c.requires.covers wakes c.args.large holding (next_in g (goal.at.returns-clause-without g c).In_ok-holding) in
+    let few = woken_untold graph m mid risen c.requires.covers c.in_ok-risen.ensures.risen wakes (c.in_ok-risen.ensures.all all none) untold in
+    ap (λ (after : MachineData). after.wide) c.hold-2.ensures
+    ∙ none_after c.args.large mid.wide holding (wakes.wide ∙ none)
+    (none_held graph mid holding wakes.ready.covers few (subst (λ large. NoneRefused large graph) zero_is c.in_ok-sizes.ensures.few)
+    (subst (λ large. HoldsNextIn large graph mid [] holding) zero_is next))
