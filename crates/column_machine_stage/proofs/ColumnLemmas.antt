@@ -1,16 +1,15 @@
 -- Words and the states of columns: what is set, added and placed in words is so in each column.
-use Rattle.std.proofs.Common.{◌≡◌, ◌≢◌, ℕ, zero, suc, ◌+◌, ◌-◌, ◌^◌, ◌<◌, ◌≤◌, Bool, true, false, ◌||◌, List, [], ◌∷◌, ◌++◌, length, map, get_or, set, take, replicate, min, bit_or, refl, sym, ap, ap₂, subst, ◌∙◌, arith, inl, inr}
+use Rattle.std.proofs.Common.{◌≡◌, ◌≢◌, ℕ, zero, suc, ◌+◌, ◌-◌, ◌<◌, ◌≤◌, Bool, ◌||◌, List, [], ◌∷◌, length, map, get_or, set, replicate, min, refl, sym, ap, ap₂, subst, ◌∙◌, arith, inl, inr}
 use Rattle.std.specs.Prelude.{zip, ◌⊎◌}
 use Rattle.std.proofs.lemmas.Bool.{cases_eq}
-use Rattle.std.proofs.lemmas.List.{get_or-map, length-set, map-append, map-set, length-map, take_more}
+use Rattle.std.proofs.lemmas.List.{get_or-map, length-set, map-set, length-map}
 use Rattle.std.proofs.lemmas.Slice.Zip.{length-zip, get_or-zip}
 use Rattle.ternary.specs.declared.tern.Tern.{Tern}
 use Rattle.ternary.specs.declared.tern.Tern.TheVariants.{Zero, One, Unk}
 use Rattle.ternary.specs.Tern.{may_one, may_zero}
 use Rattle.switch_paths.specs.Switching.{state_at}
-use Rattle.straight_code.specs.Code.{settled}
 use Rattle.word_columns.specs.Columns.{is_in_column, AreRailsIn}
-use Rattle.word_columns.proofs.ColumnLemmas.{column-none, column-all, column-high, column-low, column_bits-set, length-column_bits}
+use Rattle.word_columns.proofs.ColumnLemmas.{column-none, column-all, column_bits-set, length-column_bits}
 use Rattle.word_columns.proofs.RunLemmas.{high_counted}
 use Rattle.column_machines.specs.Columns as machine
 use Rattle.column_machines.specs.Columns.{state_with, column_states, HasStates}
@@ -20,27 +19,6 @@ use Rattle.column_machine_stage.specs.declared.words.Words.{Words}
 use Rattle.column_machine_stage.specs.Stages.{HasValue, HasValuesBelow}
 
 -- ---- bits
-
--- both rails of words where X stands for neither
-railed-one : (one other : Bool) → may_one (settled one other) ≡ may_one (state_with one other)
-railed-one true true = refl
-railed-one true false = refl
-railed-one false true = refl
-railed-one false false = refl
-
-railed-zero : (one other : Bool) → may_zero (settled one other) ≡ may_zero (state_with one other)
-railed-zero true true = refl
-railed-zero true false = refl
-railed-zero false true = refl
-railed-zero false false = refl
-
-pub HasValue-railed : (hi lo column : ℕ) → hi < 2 ^ 64 → lo < 2 ^ 64 → column < 64 →
-    HasValue column (machine.state_in column (hi, lo))
-    (record { hi = bit_or hi (18446744073709551615 - lo); lo = bit_or lo (18446744073709551615 - hi) })
-HasValue-railed hi lo column high low inside = record {
-  one = column-high column hi lo low inside ∙ railed-one (is_in_column column hi) (is_in_column column lo);
-  zero = column-low column hi lo high inside ∙ railed-zero (is_in_column column hi) (is_in_column column lo);
-}
 
 -- one column more has its state
 pub HasValuesBelow-more : (states : List Tern) (count : ℕ) (words : Words) (hi lo : ℕ) (one other : Bool) → count < 64 → HasValuesBelow count states words →
@@ -63,10 +41,6 @@ HasValuesBelow-more states count words hi lo one other few before ones zeros hig
 
 -- ---- values
 
--- X has both rails in each column
-pub HasValue-unknown : (column : ℕ) → column < 64 → HasValue column Unk (record { hi = 18446744073709551615; lo = 18446744073709551615 })
-HasValue-unknown column inside = record { one = column-all column inside; zero = column-all column inside }
-
 -- a value has a rail in each column
 pub HasStates-value : (columns : ℕ) (value : ℕ → Tern) (words : Words) → ((column : ℕ) → column < columns → HasValue column (value column) words) → HasStates columns words.hi words.lo
 HasStates-value columns value words has column inside =
@@ -85,14 +59,6 @@ pub AreRailsIn-set : (column node : ℕ) (hi lo : List ℕ) (states : List Tern)
 AreRailsIn-set column node hi lo states value words has is = record {
   ones = column_bits-set column hi node words.hi ∙ ap₂ (λ bits bit. set bits node bit) has.ones is.one ∙ sym (map-set may_one states node value);
   zeros = column_bits-set column lo node words.lo ∙ ap₂ (λ bits bit. set bits node bit) has.zeros is.zero ∙ sym (map-set may_zero states node value);
-}
-
--- and words that are added
-pub AreRailsIn-push : (column : ℕ) (hi lo : List ℕ) (states : List Tern) (value : Tern) (words : Words) → AreRailsIn column hi lo states → HasValue column value words →
-    AreRailsIn column (hi ++ words.hi ∷ []) (lo ++ words.lo ∷ []) (states ++ value ∷ [])
-AreRailsIn-push column hi lo states value words has is = record {
-  ones = map-append (is_in_column column) hi (words.hi ∷ []) ∙ ap₂ (λ (bits : List Bool) (bit : Bool). bits ++ bit ∷ []) has.ones is.one ∙ sym (map-append may_one states (value ∷ []));
-  zeros = map-append (is_in_column column) lo (words.lo ∷ []) ∙ ap₂ (λ (bits : List Bool) (bit : Bool). bits ++ bit ∷ []) has.zeros is.zero ∙ sym (map-append may_zero states (value ∷ []));
 }
 
 -- both rails are as many as the states
@@ -137,14 +103,6 @@ pub column_states-get : (column node : ℕ) (hi lo : List ℕ) → node < length
 column_states-get column node hi lo high low =
     get_or-map (machine.state_in column) (zip hi lo) node (0, 0) Zero (omega (arith, high, low, length-zip hi lo))
     ∙ ap (machine.state_in column) (get_or-zip hi lo node (0, 0) high low)
-
--- a column up to a node, and that node
-pub column_states-next : (column node : ℕ) (hi lo : List ℕ) → node < length hi → node < length lo →
-    take (node + 1) (column_states column hi lo) ≡ take node (column_states column hi lo)
-    ++ machine.state_in column (get_or hi node 0, get_or lo node 0) ∷ []
-column_states-next column node hi lo high low =
-    take_more (column_states column hi lo) node Zero (omega (arith, high, low, length-column_states-min column hi lo))
-    ∙ ap (λ (state : Tern). take node (column_states column hi lo) ++ state ∷ []) (column_states-get column node hi lo high low)
 
 -- ---- the start
 

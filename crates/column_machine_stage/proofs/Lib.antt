@@ -1,3 +1,4 @@
 pub mod ColumnLemmas
 pub mod ServingLemmas
 pub mod MovingLemmas
+pub mod EditLemmas

@@ -1,8 +1,7 @@
 -- The states of columns: as many of them in each, sound rails for a build, what a node's letters are in words, and what acts lead to.
-use Rattle.std.proofs.Common.{◌≡◌, ℕ, ◌-◌, ◌<◌, ◌≤◌, false, List, [], ◌∷◌, ◌++◌, length, set, replicate, sym, ap, subst, ◌∙◌, append-nil, arith}
+use Rattle.std.proofs.Common.{◌≡◌, ℕ, ◌<◌, ◌≤◌, false, List, [], ◌∷◌, length, set, sym, ap, subst, ◌∙◌, arith}
 use Rattle.std.specs.Prelude.{IfSome, IfNone, slice_index_or}
 use Rattle.ternary.specs.declared.tern.Tern.{Tern}
-use Rattle.ternary.specs.declared.tern.Tern.TheVariants.{Unk}
 use Rattle.switch_paths.specs.Graphs.{GraphData, nodes}
 use Rattle.switch_paths.specs.Step.{IsStep}
 use Rattle.settling.specs.declared.settling.Settled.{Settled}
@@ -13,14 +12,14 @@ use Rattle.column_machines.specs.Moving.{columns_of, highs_of, lows_of}
 use Rattle.column_machines.specs.Running.{AreColumns}
 use Rattle.column_machines.proofs.ColumnLemmas.{length-column_states}
 use Rattle.column_stage.specs.Acts.{Act, Reserved, Placed, Edited, Built, Stepped, Rested, Leads}
-use Rattle.column_stage.specs.Columns.{AreSound, letter_in, with_new_nodes}
+use Rattle.column_stage.specs.Columns.{AreSound, letter_in}
 use Rattle.column_machine_stage.specs.declared.words.Words.{Words}
 use Rattle.column_machine_stage.specs.declared.stage.Held.{Held}
 use Rattle.column_machine_stage.specs.declared.stage.Held.TheVariants as held_is
-use Rattle.column_machine_stage.specs.declared.stage.Rails.{Rails}
+use Rattle.column_machines.specs.declared.rails.Rails.{Rails}
 use Rattle.column_machine_stage.specs.Stages.{StageData, HasValue, MovesTogether, hi_held, lo_held, machine_held, states_in}
 use Rattle.column_machine_stage.specs.Acts.{DidAct, SettlesIn}
-use Rattle.column_machine_stage.proofs.ColumnLemmas.{length-column_states-min, HasStates-value, placed_value}
+use Rattle.column_machine_stage.proofs.ColumnLemmas.{HasStates-value, placed_value}
 
 -- ---- what is held
 
@@ -41,16 +40,6 @@ columns_built columns held machine is columns_are same =
     (subst (λ (h : Held). IfSome (machine_held h) (λ one. columns_of one ≡ columns)) is same) columns_are)
 
 -- ---- nodes
-
--- no node is new where there are as many
-pub none_new : (nodes : ℕ) (state : List Tern) → nodes ≤ length state → state ≡ with_new_nodes state nodes
-none_new nodes state few =
-    let none : nodes - length state ≡ 0 = omega (arith, few) in
-    sym (append-nil state) ∙ ap (λ (count : ℕ). state ++ replicate count Unk) (sym none)
-
--- each column has as many states as the first
-pub as_many : (column : ℕ) (hi lo : List ℕ) → length (column_states column hi lo) ≡ length (column_states 0 hi lo)
-as_many column hi lo = length-column_states-min column hi lo ∙ sym (length-column_states-min 0 hi lo)
 
 module _ (g : GraphData) (stage : StageData) (columns_are : AreColumns stage.columns stage.hi stage.lo) (some : 1 ≤ stage.columns)
     (sound : AreSound g stage.columns (states_in stage)) where
@@ -90,7 +79,7 @@ pub settle_together : (g : GraphData) (limit : ℕ) (counts : List Settled) (old
     MovesTogether g (SettlesIn g limit counts) old new
 settle_together g limit counts old new moves =
     let one = moves (record { steps = 0; joined = false }) in
-    record { columns = one.columns; each = λ column inside past. (moves past).each column inside; fits = one.fits }
+    record { columns = one.columns; each = λ column inside past. (moves past).each column inside; fits = one.fits; kind = one.kind }
 
 -- ---- acts
 

@@ -5,16 +5,15 @@ use crate::words::value_words;
 use analysis_cache::{Analyst, Kept};
 use channel_groups::Change;
 use circuit_texts::BuildFault;
-use column_stage::{ColumnStage, Stage};
-use settling::Settled;
+use column_stage::{ColumnStage, Columns, Stage};
+use settling::{Onlooker, Settled};
 use std::alloc::Global;
-use switch_paths::Graph;
+use switch_paths::{Graph, graphs_are_wired};
 use ternary::{NoMemory, Tern};
 
-impl Stage for ColumnMachineStage {
-    ghost use Rattle.std.specs.Prelude.{[]};
-    ghost use Rattle.column_machines.specs.Building.{IsCutInColumns};
-    ghost use Rattle.column_machine_stage.specs.Stages.{FitsIn, ServesIn, columns_on, states_in};
+impl Columns for ColumnMachineStage {
+    ghost use Rattle.column_stage.specs.Standing.{IsCutInColumns};
+    ghost use Rattle.column_machine_stage.specs.Stages.{FitsIn, ServesIn, columns_on, last_held, states_in};
     ghost use Rattle.column_machine_stage.specs.Acts.{DidAct};
 
     ghost columns = { columns_on };
@@ -23,7 +22,7 @@ impl Stage for ColumnMachineStage {
 
     ghost spare = { λ stage. stage.spare };
 
-    ghost last = { λ _. [] };
+    ghost last = { λ stage. last_held stage.machine };
 
     ghost serves = { ServesIn };
 
@@ -32,6 +31,40 @@ impl Stage for ColumnMachineStage {
     ghost cuts = { IsCutInColumns };
 
     ghost did = { DidAct };
+
+    fn reserve(&mut self) -> Result<(), NoMemory> {
+        self.take_room()
+    }
+
+    fn edit(&mut self, _alloc: Global, graph: &Graph, change: &Change, kept: &mut Kept) {
+        // a call for the proof alone: there is a column, which has a state for each node
+        let _some = self.count();
+        graphs_are_wired(graph);
+        self.follow(graph, change, kept);
+    }
+
+    fn build<A: Analyst>(
+        &mut self,
+        _alloc: Global,
+        graph: &Graph,
+        large: usize,
+        kept: &mut Kept,
+        analyst: &mut A,
+    ) -> Result<u64, BuildFault> {
+        self.make(graph, large, kept, analyst)
+    }
+
+    fn use_last(&self, kept: &mut Kept) {
+        self.put_last(kept);
+    }
+}
+
+impl Stage for ColumnMachineStage {
+    ghost Shows = { ⊥ };
+
+    fn shown(&self) -> Option<&[Tern]> {
+        None
+    }
 
     fn columns(&self) -> u32 {
         self.count()
@@ -46,36 +79,19 @@ impl Stage for ColumnMachineStage {
         self.set_node(graph, node, words);
     }
 
-    fn reserve(&mut self) -> Result<(), NoMemory> {
-        self.take_room()
-    }
-
-    fn edit(&mut self, _alloc: Global, graph: &Graph, _change: &Change, _kept: &mut Kept) {
-        // a call for the proof alone: there is a column, which has a state for each node
-        let _some = self.count();
-        self.add_nodes(graph.nodes());
-    }
-
-    fn build<A: Analyst>(
-        &mut self,
-        _alloc: Global,
-        graph: &Graph,
-        large: usize,
-        kept: &mut Kept,
-        analyst: &mut A,
-    ) -> Result<u64, BuildFault> {
-        self.make(graph, large, kept, analyst)
-    }
-
-    fn step(&mut self, graph: &Graph) {
+    fn step<O: Onlooker>(&mut self, graph: &Graph, _onlooker: &mut O) {
         self.step_machine(graph);
     }
 
-    fn settle(&mut self, graph: &Graph, limit: u64, counts: &mut [Settled]) {
+    fn settle<O: Onlooker>(
+        &mut self,
+        graph: &Graph,
+        limit: u64,
+        counts: &mut [Settled],
+        _onlooker: &mut O,
+    ) {
         self.settle_machine(graph, limit, counts);
     }
-
-    fn use_last(&self, _kept: &mut Kept) {}
 }
 
 impl ColumnStage for ColumnMachineStage {

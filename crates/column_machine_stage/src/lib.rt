@@ -5,9 +5,11 @@
 //! by code that is run once for all of them; if some group is too large for one, they take turns on one machine. The words
 //! are held once, by the machine if there is one.
 //!
-//! The machine is built at the first command that wants it, over the analyses that are kept, whose texts stand in front of
-//! all others then. An edit lets it go, and so does the room that is taken for one; the next command that wants it builds it
-//! anew. So does a build that accepts larger groups or smaller ones than the one before, or goes by a bound on what is kept.
+//! The machine is built at the first command that wants it, over the analyses that are kept. Where columns step together it
+//! lives through edits of the circuit, as that of one column does, but that an edit lets it go which makes a group that is too
+//! large for a text. Where they take turns the texts of a build stand in front of all others that are kept; the room that is
+//! taken for an edit lets that machine go, and a build makes it anew that accepts larger groups or smaller ones than the one
+//! before, or goes by a bound on what is kept.
 //!
 //! The layer above uses a session over it, whose contract says which acts a command does to its stage. What an act does to
 //! the columns is `DidAct`: after a step each column took the unit step, and after a phase each settled, with its own count.

@@ -2,7 +2,6 @@
 
 ghost use Rattle.std.specs.Prelude.{◌≡◌, ℕ, ◌<◌, ◌≤◌, ◌⊎◌, length};
 ghost use Rattle.word_columns.specs.Columns.{is_in_column};
-ghost use Rattle.column_machines.specs.Columns as machine;
 ghost use Rattle.column_stage.specs.Columns.{letter_in};
 ghost use Rattle.column_machine_stage.specs.Stages.{HasValue, HasValuesBelow};
 
@@ -64,14 +63,4 @@ fn column_words(states: &[Tern]) -> Words
         };
     }
     words
-}
-
-/// Words that have a rail in each column, and the same states: if neither is set, X stands.
-pub(crate) fn railed(hi: u64, lo: u64) -> Words
-    ensures { (column : ℕ) → column < 64 → HasValue column (machine.state_in column (hi, lo)) result }
-{
-    Words {
-        hi: hi | !lo,
-        lo: lo | !hi,
-    }
 }

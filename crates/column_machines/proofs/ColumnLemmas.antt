@@ -1,16 +1,16 @@
 -- Columns of words: the states of a column, and their rails.
-use Rattle.std.proofs.Common.{◌≡◌, ◌≢◌, ℕ, suc, ◌-◌, ◌*◌, ◌^◌, ◌%◌, ◌<◌, Bool, true, false, ◌||◌, ◌&&◌, List, [], ◌∷◌, length, map, get_or, bit_and, bit_or, w64, refl, sym, ap, ap₂, ◌∙◌, arith}
+use Rattle.std.proofs.Common.{◌≡◌, ◌≢◌, ℕ, suc, ◌-◌, ◌*◌, ◌^◌, ◌%◌, ◌<◌, Bool, true, false, ◌||◌, ◌&&◌, List, [], ◌∷◌, ◌++◌, length, map, get_or, bit_and, bit_or, w64, refl, sym, ap, ap₂, ◌∙◌, arith}
 use Rattle.std.specs.Prelude.{◌==◌, zip}
 use Rattle.std.proofs.lemmas.Bool.{and_parts}
 use Rattle.std.proofs.lemmas.Nat.Bits.{bit_at_clear_same, bit_at_clear_other, bit_at_set_same, bit_at_set_other}
-use Rattle.std.proofs.lemmas.List.{ext_get_or, get_or-map, length-map}
+use Rattle.std.proofs.lemmas.List.{ext_get_or, get_or-map, length-map, map-append}
 use Rattle.std.proofs.lemmas.Slice.Zip.{get_or-zip}
 use Rattle.ternary.specs.declared.tern.Tern.{Tern}
 use Rattle.ternary.specs.declared.tern.Tern.TheVariants.{Zero, One, Unk}
 use Rattle.ternary.specs.Tern.{may_one, may_zero}
 use Rattle.switch_paths.specs.Switching.{state_at}
 use Rattle.word_columns.specs.Columns.{is_in_column, column_bits, AreRailsIn}
-use Rattle.word_columns.proofs.ColumnLemmas.{column-and, column-none, column_bits-at, length-column_bits}
+use Rattle.word_columns.proofs.ColumnLemmas.{column-all, column-and, column-none, column_bits-at, length-column_bits}
 use Rattle.word_columns.proofs.RunLemmas.{high_counted, high_at_node, low_at_node}
 use Rattle.column_machines.specs.Columns.{state_with, state_in, column_states}
 
@@ -116,3 +116,18 @@ module _ (column : ℕ) (hi lo : List ℕ) (even : length lo ≡ length hi) wher
         column_bits-at column lo node (omega (arith, within, even)) ∙ other ∙ ap may_zero (sym (column_states-value node within s one other))
         ∙ sym (get_or-map may_zero (column_states column hi lo) node Zero false there));
   }
+
+-- ---- nodes that are added
+
+-- X has both rails in each column
+pub AreRailsIn-unknown : (column : ℕ) (hi lo : List ℕ) (states : List Tern) → column < 64 → AreRailsIn column hi lo states →
+    AreRailsIn column (hi ++ 18446744073709551615 ∷ []) (lo ++ 18446744073709551615 ∷ []) (states ++ Unk ∷ [])
+AreRailsIn-unknown column hi lo states inside has =
+    let all : is_in_column column 18446744073709551615 ≡ true = column-all column inside in
+    record {
+      ones = map-append (is_in_column column) hi (18446744073709551615 ∷ []) ∙ ap₂ (λ (bits : List Bool) (bit : Bool). bits ++ bit ∷ []) has.ones all
+          ∙ sym (map-append may_one states (Unk ∷ []));
+      zeros = map-append (is_in_column column) lo (18446744073709551615 ∷ [])
+          ∙ ap₂ (λ (bits : List Bool) (bit : Bool). bits ++ bit ∷ []) has.zeros all
+          ∙ sym (map-append may_zero states (Unk ∷ []));
+    }

@@ -199,7 +199,6 @@ pub cleared_rooms : (workspace : Workspace) (changes : Vec WordChange Global) (d
     vec_capacity changes ≡ vec_capacity workspace.changes →
     vec_capacity done ≡ vec_capacity workspace.done → rooms (record workspace { changes = changes; done = done }) ≡ rooms workspace
 cleared_rooms workspace changes done changes_same done_same = λ i. record {
-  values = length workspace.values.items;
   outs = length workspace.out_hi.items;
   changes = changes_same i;
   parts = done_same i;

@@ -4,5 +4,6 @@ mod EvaluationLemmas
 mod TakingLemmas
 mod StepLemmas
 mod MakingLemmas
-mod FittingLemmas
+pub mod FittingLemmas
+pub mod EditLemmas
 mod TurnLemmas

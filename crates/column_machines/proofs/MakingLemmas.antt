@@ -1,99 +1,98 @@
--- A machine of columns that is made: its columns, and its room.
-use Rattle.std.proofs.Common.{◌≡◌, ℕ, ◌<◌, ◌≤◌, Bool, true, false, List, length, All, Vec, Global, refl, sym, subst, ◌∙◌, arith}
-use Rattle.std.specs.Prelude.{replicate}
+-- A machine of columns that is made or changes: its columns, and its room.
+use Rattle.std.proofs.Common.{◌≡◌, ℕ, zero, suc, ◌<◌, ◌≤◌, Bool, true, List, [], ◌∷◌, length, refl, sym, subst, ◌∙◌, arith}
+use Rattle.std.specs.Prelude.{replicate, slice_index_or}
+use Rattle.std.specs.List.{sum_by}
 use Rattle.std.proofs.lemmas.Bool.{lt-ltb, le-ltb}
 use Rattle.std.proofs.lemmas.List.{length-replicate}
+use Rattle.std.proofs.lemmas.List.Sums.{sum_by-cons}
 use Rattle.machine_parts.specs.declared.part.MachinePart.{MachinePart}
-use Rattle.machine_parts.specs.Parts.{IsStale, AreApart}
-use Rattle.machine_laws.specs.Columns.{AreSeated}
-use Rattle.column_machines.specs.Evaluating.{Rooms, IsSeated, HasRoomFor}
+use Rattle.machine_parts.specs.Marking.{members_of}
+use Rattle.machine_laws.specs.Machines.{MachineData}
+use Rattle.column_machines.specs.Evaluating.{Rooms, HasRoomFor}
 use Rattle.column_machines.specs.Columns.{column_states, HasColumn}
-use Rattle.part_lists.specs.Listing.{AreLists}
-use Rattle.column_machines.specs.Running.{IsRunnable, AreUsed, AreColumns, IsWordMachine, StepsInAll}
+use Rattle.column_machines.specs.Running.{AreUsed, AreColumns, IsWordMachine, StepsInAll}
 use Rattle.column_machines.specs.Stepping.{StepsColumns}
+
+-- ---- room
+
+-- a part has no more members than all parts together
+each_below : (parts : List MachinePart) (k : ℕ) (d : MachinePart) → k < length parts → members_of (slice_index_or parts k d) ≤ sum_by members_of parts
+each_below [] k d inside = absurd (omega (arith, inside))
+each_below (part ∷ parts) zero d inside = omega (arith, sum_by-cons members_of part parts)
+each_below (part ∷ parts) (suc k) d inside = omega (arith, sum_by-cons members_of part parts, each_below parts k d (omega (arith, inside)))
+
+-- there is room for the parts if there is for as many members as all have
+pub HasRoomFor-sum : (parts : List MachinePart) (members : ℕ) (room : Rooms) → sum_by members_of parts ≤ members → members ≤ room.outs → members ≤ room.changes →
+    length parts ≤ room.parts → HasRoomFor parts room
+HasRoomFor-sum parts members room below outs changes count = record {
+  outs = λ k d inside.
+      let least : members_of (slice_index_or parts k d) ≤ sum_by members_of parts = each_below parts k d inside in
+      omega (arith, least, below, outs);
+  changes = omega (arith, below, changes);
+  parts_room = count;
+}
 
 -- ---- the made machine
 
--- the parts are seated in room for their codes
-pub seated_in : (count : ℕ) (parts : List MachinePart) (room : Rooms) → AreSeated count parts → HasRoomFor parts room →
-    All (IsSeated count room) parts
-seated_in count parts room (other, seated) fits k d inside =
-    record { other = other; seated = seated k d inside; value_room = fits.values k d inside; out_room = fits.outs k d inside }
-
--- a machine of such parts, all of them marked, is one of columns
-pub IsWordMachine-made : (columns used : ℕ) (parts : List MachinePart) (readers owners : List (Vec ℕ Global)) (hi lo : List ℕ) (room : Rooms) →
-    columns ≤ 64 → AreUsed columns used → AreSeated (length hi) parts → HasRoomFor parts room → AreApart parts → ((k : ℕ) → ¬ IsStale parts k) →
-    AreLists false parts (length hi) readers → AreLists true parts (length hi) owners → AreColumns columns hi lo →
-    IsWordMachine columns used parts (replicate (length parts) true) readers owners hi lo room
-IsWordMachine-made columns used parts readers owners hi lo room few used_are seated fits apart fresh readers_are owners_are columns_are = record {
+-- a machine of columns with all parts marked
+pub IsWordMachine-made : (columns used : ℕ) (machine : MachineData) (members : ℕ) (hi lo : List ℕ) (room : Rooms) → columns ≤ 64 →
+    AreUsed columns used →
+    length hi ≡ length machine.state → sum_by members_of machine.parts ≤ members → members ≤ room.outs → members ≤ room.changes →
+    length machine.parts ≤ room.parts → AreColumns columns hi lo →
+    IsWordMachine columns used machine (replicate (length machine.parts) true) hi lo room
+IsWordMachine-made columns used machine members hi lo room few used_are nodes below outs changes count columns_are = record {
   few = few;
   used_are = used_are;
-  runs = record {
-    counted = length-replicate (length parts) true;
-    seated = seated_in (length hi) parts room seated fits;
-    apart = apart;
-    fresh = fresh;
-    readers_are = readers_are;
-    changes_room = fits.changes;
-    parts_room = fits.parts_room;
-  };
-  owners_are = owners_are;
+  nodes = nodes;
+  runs = record { counted = length-replicate (length machine.parts) true; room_for = HasRoomFor-sum machine.parts members room below outs changes count };
   columns_are = columns_are;
 }
 
 -- ---- marks and words of a machine that change
 
 -- with other marks and words it is one again, and with the same room
-pub IsWordMachine-again : (columns used : ℕ) (parts : List MachinePart) (marks new_marks : List Bool) (readers owners : List (Vec ℕ Global))
-    (hi lo new_hi new_lo : List ℕ) (room new_room : Rooms) → length new_marks ≡ length marks → length new_hi ≡ length hi → new_room ≡ room →
-    AreColumns columns new_hi new_lo → IsWordMachine columns used parts marks readers owners hi lo room →
-    IsWordMachine columns used parts new_marks readers owners new_hi new_lo new_room
-IsWordMachine-again columns used parts marks new_marks readers owners hi lo new_hi new_lo room new_room counted long rooms columns_are machine =
-    subst (IsWordMachine columns used parts new_marks readers owners new_hi new_lo) (sym rooms) (record {
-      few = machine.few;
-      used_are = machine.used_are;
-      runs = subst (λ n. IsRunnable parts new_marks n readers room) (sym long) (record {
-        counted = counted ∙ machine.runs.counted;
-        seated = machine.runs.seated;
-        apart = machine.runs.apart;
-        fresh = machine.runs.fresh;
-        readers_are = machine.runs.readers_are;
-        changes_room = machine.runs.changes_room;
-        parts_room = machine.runs.parts_room;
-      });
-      owners_are = subst (λ n. AreLists true parts n owners) (sym long) machine.owners_are;
+pub IsWordMachine-again : (columns used : ℕ) (machine : MachineData) (marks new_marks : List Bool) (hi lo new_hi new_lo : List ℕ) (room new_room : Rooms) →
+    length new_marks ≡ length marks → length new_hi ≡ length hi → new_room ≡ room → AreColumns columns new_hi new_lo →
+    IsWordMachine columns used machine marks hi lo room → IsWordMachine columns used machine new_marks new_hi new_lo new_room
+IsWordMachine-again columns used machine marks new_marks hi lo new_hi new_lo room new_room counted long rooms columns_are is =
+    subst (IsWordMachine columns used machine new_marks new_hi new_lo) (sym rooms) (record {
+      few = is.few;
+      used_are = is.used_are;
+      nodes = long ∙ is.nodes;
+      runs = record { counted = counted ∙ is.runs.counted; room_for = is.runs.room_for };
       columns_are = columns_are;
     })
 
 -- ---- a step
 
-module _ (columns used : ℕ) (parts : List MachinePart) (marks : List Bool) (readers owners : List (Vec ℕ Global)) (hi lo : List ℕ) (room : Rooms)
-    (machine : IsWordMachine columns used parts marks readers owners hi lo room) where
+module _ (columns used : ℕ) (machine : MachineData) (marks : List Bool) (hi lo : List ℕ) (room : Rooms)
+    (is : IsWordMachine columns used machine marks hi lo room) where
   -- each column is one of the used ones
   pub column_there : (column : ℕ) → column < columns → HasColumn used hi lo column (column_states column hi lo)
   column_there column inside = record {
-    inside = omega (arith, inside, machine.few);
-    used_is = machine.used_are column ∙ lt-ltb column columns inside;
-    has = machine.columns_are.each column inside;
+    inside = omega (arith, inside, is.few);
+    used_is = is.used_are column ∙ lt-ltb column columns inside;
+    has = is.columns_are.each column inside;
   }
 
   module _ (joining : Bool) (new_marks : List Bool) (new_hi new_lo : List ℕ) (changed : ℕ)
-      (steps : StepsInAll joining parts used marks new_marks hi lo new_hi new_lo changed) where
+      (steps : StepsInAll joining machine.parts used marks new_marks hi lo new_hi new_lo changed) where
     -- the words are states after a step
     pub AreColumns-stepped : AreColumns columns new_hi new_lo
     AreColumns-stepped = record {
-      counted = steps.lows ∙ (machine.columns_are.counted ∙ sym steps.highs);
+      counted = steps.lows ∙ (is.columns_are.counted ∙ sym steps.highs);
       each = λ column inside. steps.has column (column_states column hi lo) (column_there column inside);
     }
 
     -- and each column took the step
-    pub StepsColumns-stepped : StepsColumns joining (record { columns = columns; parts = parts; marks = marks; hi = hi; lo = lo })
-        (record { columns = columns; parts = parts; marks = new_marks; hi = new_hi; lo = new_lo }) changed
-    StepsColumns-stepped = record {
+    pub StepsColumns-stepped : (spare new_spare : ℕ) →
+        StepsColumns joining (record { columns = columns; machine = machine; marks = marks; hi = hi; lo = lo; spare = spare })
+        (record { columns = columns; machine = machine; marks = new_marks; hi = new_hi; lo = new_lo; spare = new_spare }) changed
+    StepsColumns-stepped spare new_spare = record {
       each = λ column inside. steps.each column (column_states column hi lo) (column_there column inside);
-      beyond = λ column past. steps.beyond column (machine.used_are column ∙ le-ltb column columns past);
+      beyond = λ column past. steps.beyond column (is.used_are column ∙ le-ltb column columns past);
       columns = refl;
-      parts = refl;
+      machine = refl;
       highs = steps.highs;
       lows = steps.lows;
     }

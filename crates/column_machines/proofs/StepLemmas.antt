@@ -1,6 +1,6 @@
 -- What a step does in each column, from what was noted and written: which nodes take which states, which parts are marked, and whether the
 -- column changed.
-use Rattle.std.proofs.Common.{◌≡◌, ◌≢◌, ℕ, ◌<◌, ◌⊎◌, Bool, true, false, inl, inr, List, length, Global, Vec, refl, sym, ap, subst, ◌∙◌, arith}
+use Rattle.std.proofs.Common.{◌≡◌, ◌≢◌, ℕ, ◌<◌, ◌⊎◌, Bool, true, false, inl, inr, List, All, length, refl, sym, ap, subst, ◌∙◌, arith}
 use Rattle.std.specs.Prelude.{Contains, slice_index}
 use Rattle.std.proofs.lemmas.Bool.{cases_lt}
 use Rattle.std.proofs.lemmas.List.{ext_get_or, get_or_past}
@@ -13,6 +13,8 @@ use Rattle.settling.specs.Settling.{StaysOrBecomesX}
 use Rattle.word_columns.specs.Columns.{is_in_column, AreRailsIn}
 use Rattle.word_columns.proofs.RunLemmas.{high_counted, high_at_node, low_at_node}
 use Rattle.machine_parts.specs.declared.part.MachinePart.{MachinePart}
+use Rattle.machine_parts.specs.Parts.{ReadsAt, AreApart}
+use Rattle.machine_parts.specs.Evaluating.{Rooms, IsSeated}
 use Rattle.machine_parts.specs.Marking.{IsMarked, MarksAll}
 use Rattle.machine_parts.specs.Stepping.{IsGiven, Moves, StaysMarked}
 use Rattle.part_words.specs.Noting.{after}
@@ -21,9 +23,8 @@ use Rattle.machine_parts.proofs.PartLemmas.{given_once}
 use Rattle.column_machines.specs.declared.evaluation.WordChange.{WordChange}
 use Rattle.column_machines.specs.Columns.{column_states, HasColumn}
 use Rattle.column_machines.specs.Noting.{HasChange}
-use Rattle.column_machines.specs.Evaluating.{Evaluated, Rooms, IsSeated}
-use Rattle.part_lists.specs.Listing.{listed_at, IsAmong}
-use Rattle.column_machines.specs.Running.{IsRunnable, IsLeftAt, AreWritten, ReadsAny, StepsTo}
+use Rattle.column_machines.specs.Evaluating.{Evaluated}
+use Rattle.column_machines.specs.Running.{IsLeftAt, AreWritten, ReadsAny, StaysOn, StepsTo}
 use Rattle.column_machines.proofs.ColumnLemmas.{length-column_states, column_states-value, AreRailsIn-each}
 use Rattle.column_machines.proofs.NotingLemmas.{no_difference, no_change}
 use Rattle.column_machines.proofs.TakingLemmas.{AreChanged}
@@ -33,23 +34,22 @@ after-fades : (joining : Bool) → joining ≡ true → (s t : Tern) → (after 
 after-fades true is s t = join-fades s t
 after-fades false is s t = absurd (cc)
 
-module _ (joining : Bool) (used : ℕ) (parts : List MachinePart) (marks : List Bool) (hi lo : List ℕ) (readers : List (Vec ℕ Global)) (room : Rooms)
-    (runs : IsRunnable parts marks (length hi) readers room) (even : length lo ≡ length hi) (first : List Bool) (changes : List WordChange)
-    (done : List ℕ) (evaluated : Evaluated joining parts used hi lo marks first changes done) where
+module _ (joining : Bool) (used : ℕ) (parts : List MachinePart) (marks : List Bool) (hi lo : List ℕ) (room : Rooms) (seated : All (IsSeated (length hi) room) parts)
+    (apart : AreApart parts) (even : length lo ≡ length hi) (first : List Bool) (changes : List WordChange) (done : List ℕ) (evaluated : Evaluated joining parts used hi lo marks first changes done) where
   module _ (rest : (k : ℕ) → ¬ IsMarked first k) (column : ℕ) (state : List Tern) (col : HasColumn used hi lo column state) where
     counted : length hi ≡ length state
     counted = high_counted column hi lo state col.has
 
     -- all marked parts together give a node one value
     given_one : (node : ℕ) (v w : Tern) → IsGiven parts marks state node v → IsGiven parts marks state node w → v ≡ w
-    given_one = given_once parts state (λ k part stands. (subst (IsSeated (length hi) room) stands.here (runs.seated k part stands.inside)).seated.apart) marks runs.apart
+    given_one = given_once parts state (λ k part stands. (subst (IsSeated (length hi) room) stands.here (seated k part stands.inside)).apart) marks apart
 
     -- a node to which a value is given is there
     given_inside : (node : ℕ) (value : Tern) → IsGiven parts marks state node value → node < length hi
     given_inside node value given =
         let gives = given.gives in
-        let seat = subst (IsSeated (length hi) room) gives.stands.here (runs.seated given.k gives.part gives.stands.inside) in
-        subst (λ n. n < length hi) gives.member.here (seat.seated.below gives.place 0 gives.member.within)
+        let seat = subst (IsSeated (length hi) room) gives.stands.here (seated given.k gives.part gives.stands.inside) in
+        subst (λ n. n < length hi) gives.member.here (seat.below gives.place 0 gives.member.within)
 
     -- what a change is to: a value that is given to its node
     record IsTo (change : WordChange) : Type 0 where
@@ -208,15 +208,19 @@ module _ (joining : Bool) (used : ℕ) (parts : List MachinePart) (marks : List 
             ])
 
         -- the marks afterwards
-        module _ (second third : List Bool) (count : length first ≡ length marks) (again : MarksAll (λ k. (joining ≡ true) × Contains done k) first second)
-            (read : MarksAll (ReadsAny readers changes) second third) where
+        module _ (second third : List Bool) (count : length first ≡ length marks) (again : MarksAll (StaysOn joining parts done) first second)
+            (read : MarksAll (ReadsAny parts changes) second third) where
           stays_by : (kind : Bool) → kind ≡ joining → (k : ℕ) → StaysMarked kind parts marks k → IsMarked second k
           stays_by true is k was =
               elim (evaluated.popped k was) [
                 | inl still ↦ again.stays k still
-                | inr there ↦ again.set k (sym is, there)
+                | inr there ↦ again.set k (there, inl (sym is))
               ]
-          stays_by false is k (was, stale) = absurd (runs.fresh k stale)
+          stays_by false is k (was, stale) =
+              elim (evaluated.popped k was) [
+                | inl still ↦ again.stays k still
+                | inr there ↦ again.set k (there, inr stale)
+              ]
 
           keeps : KeepsMarks joining parts marks state next third
           keeps = record {
@@ -225,10 +229,11 @@ module _ (joining : Bool) (used : ℕ) (parts : List MachinePart) (marks : List 
             reads = λ k change.
                 elim (becomes change.node) [
                   | inl takes ↦
-                      let among : IsAmong false parts k change.node = record { part = change.reads.part; stands = change.reads.stands; among = change.reads.reads } in
-                      let listed = runs.readers_are.listed change.node k among in
-                      let at_node = subst (λ n. Contains (listed_at readers n) k) (sym takes.of_node) listed in
-                      read.set k (record { change = takes.change; changes_it = takes.there; reads = at_node })
+                      read.set k (record {
+                        change = takes.change;
+                        changes_it = takes.there;
+                        reads = subst (λ n. ReadsAt parts k n) (sym takes.of_node) change.reads;
+                      })
                   | inr left ↦ absurd (change.changed (left_as change.node left))
                 ];
           }

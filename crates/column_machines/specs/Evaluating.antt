@@ -8,40 +8,27 @@ use Rattle.word_columns.specs.Columns.{is_in_column}
 use Rattle.machine_parts.specs.declared.part.MachinePart.{MachinePart}
 use Rattle.machine_parts.specs.Marking.{IsMarked, members_of}
 use Rattle.machine_parts.specs.Stepping.{Gives}
-use Rattle.machine_parts.specs.Evaluating as single
 use Rattle.part_words.specs.Noting.{after}
-use Rattle.machine_parts.specs.Making.{IsCodeRoom}
 use Rattle.column_machines.specs.declared.evaluation.WordChange.{WordChange}
 use Rattle.column_machines.specs.declared.evaluation.Workspace.{Workspace}
 use Rattle.column_machines.specs.Columns.{HasColumn}
 use Rattle.column_machines.specs.Noting.{HasChange}
 
--- how much room a step has: for all that a code reads, for its outputs, for nodes that change, and for parts
+-- how much room a step has: for the outputs of a code, for nodes that change, and for parts
 pub record Rooms : Type 0 where
-  pub values : ℕ
   pub outs : ℕ
   pub changes : ℕ
   pub parts : ℕ
 
 abbrev pub rooms : Workspace → Rooms
 rooms workspace = record {
-  values = length workspace.values.items;
   outs = length workspace.out_hi.items;
   changes = vec_capacity workspace.changes;
   parts = vec_capacity workspace.done;
 }
 
--- the part's nodes are there, no two places of its map have one node, and its code fits it, as in a machine of one simulation; there is room
--- for its code and its outputs
-pub record IsSeated (count : ℕ) (room : Rooms) (part : MachinePart) : Type 0 where
-  pub other : single.Rooms
-  pub seated : single.IsSeated count other part
-  pub value_room : IsCodeRoom room.values part
-  pub out_room : part.members ≤ room.outs
-
 -- there is room for the steps of these parts
 pub record HasRoomFor (parts : List MachinePart) (room : Rooms) : Type 0 where
-  pub values : All (IsCodeRoom room.values) parts
   pub outs : All (λ part. part.members ≤ room.outs) parts
   pub changes : sum_by members_of parts ≤ room.changes
   pub parts_room : length parts ≤ room.parts

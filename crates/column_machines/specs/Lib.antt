@@ -2,7 +2,8 @@ pub mod Columns
 pub mod Noting
 pub mod Evaluating
 pub mod Running
-pub mod Building
+pub mod Making
+pub mod Editing
 pub mod Placing
 pub mod Stepping
 pub mod Turns

@@ -8,6 +8,6 @@ use Rattle.column_machines.specs.Columns.{WordData}
 pub record PlacesWords (node hi lo : ℕ) (old new : WordData) : Type 0 where
   pub highs : new.hi ≡ slice_set old.hi node hi
   pub lows : new.lo ≡ slice_set old.lo node lo
-  pub marks : MarksAll (λ k. Concerns old.parts k node) old.marks new.marks
+  pub marks : MarksAll (λ k. Concerns old.machine.parts k node) old.marks new.marks
   pub columns : new.columns ≡ old.columns
-  pub parts : new.parts ≡ old.parts
+  pub machine : new.machine ≡ old.machine

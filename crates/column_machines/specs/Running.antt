@@ -1,29 +1,21 @@
 -- What lets a machine of columns run, and what a step does in each column.
-use Rattle.std.specs.Prelude.{◌≡◌, ◌≢◌, ℕ, ◌<◌, ◌≤◌, ◌⊎◌, Bool, true, false, nat_lt, List, length, All, Contains, Vec, slice_index}
-use Rattle.std.specs.List.{sum_by}
-use Rattle.std.proofs.Common.{Global}
+use Rattle.std.specs.Prelude.{◌≡◌, ◌≢◌, ℕ, ◌<◌, ◌≤◌, ◌⊎◌, Bool, true, false, None, nat_lt, List, length, Contains, slice_index}
 use Rattle.ternary.specs.declared.tern.Tern.{Tern}
 use Rattle.settling.specs.Settling.{StaysOrBecomesX}
 use Rattle.word_columns.specs.Columns.{is_in_column, AreRailsIn}
 use Rattle.machine_parts.specs.declared.part.MachinePart.{MachinePart}
-use Rattle.machine_parts.specs.Parts.{IsStale, AreApart}
-use Rattle.machine_parts.specs.Marking.{members_of, IsReached}
+use Rattle.machine_parts.specs.Parts.{IsStale, ReadsAt}
 use Rattle.machine_parts.specs.Stepping.{Moves}
+use Rattle.machine_laws.specs.Machines.{MachineData}
 use Rattle.machine_laws.specs.Columns.{KeepsMarks}
-use Rattle.part_lists.specs.Listing.{listed_at, AreLists}
-use Rattle.column_machines.specs.Evaluating.{Rooms, IsSeated}
+use Rattle.column_machines.specs.Evaluating.{Rooms, HasRoomFor}
 use Rattle.column_machines.specs.declared.evaluation.WordChange.{WordChange}
 use Rattle.column_machines.specs.Columns.{column_states, HasColumn}
 
--- the parts are seated, share no members, have marks, and none of them is stale; each node has its readers; and there is room for a step
-pub record IsRunnable (parts : List MachinePart) (marks : List Bool) (count : ℕ) (readers : List (Vec ℕ Global)) (room : Rooms) : Type 0 where
+-- the parts have marks, and there is room for a step
+pub record IsRunnable (parts : List MachinePart) (marks : List Bool) (room : Rooms) : Type 0 where
   pub counted : length marks ≡ length parts
-  pub seated : All (IsSeated count room) parts
-  pub apart : AreApart parts
-  pub fresh : (k : ℕ) → ¬ IsStale parts k
-  pub readers_are : AreLists false parts count readers
-  pub changes_room : sum_by members_of parts ≤ room.changes
-  pub parts_room : length parts ≤ room.parts
+  pub room_for : HasRoomFor parts room
 
 -- the word has the bits of the first columns, so many
 abbrev pub AreUsed : ℕ → ℕ → Type 0
@@ -34,12 +26,12 @@ pub record AreColumns (columns : ℕ) (hi lo : List ℕ) : Type 0 where
   pub counted : length lo ≡ length hi
   pub each : (column : ℕ) → column < columns → AreRailsIn column hi lo (column_states column hi lo)
 
--- the machine can run, knows the owners of its nodes, and has a state in each column
-pub record IsWordMachine (columns used : ℕ) (parts : List MachinePart) (marks : List Bool) (readers owners : List (Vec ℕ Global)) (hi lo : List ℕ) (room : Rooms) : Type 0 where
+-- there are at most 64 columns, the machine has a state for each node, its parts can run, and there is a state in each column
+pub record IsWordMachine (columns used : ℕ) (machine : MachineData) (marks : List Bool) (hi lo : List ℕ) (room : Rooms) : Type 0 where
   pub few : columns ≤ 64
   pub used_are : AreUsed columns used
-  pub runs : IsRunnable parts marks (length hi) readers room
-  pub owners_are : AreLists true parts (length hi) owners
+  pub nodes : length hi ≡ length machine.state
+  pub runs : IsRunnable machine.parts marks room
   pub columns_are : AreColumns columns hi lo
 
 -- some change of the node is written
@@ -62,9 +54,20 @@ pub record AreWritten (changes : List WordChange) (old_hi old_lo hi lo : List �
   pub lows : length lo ≡ length old_lo
   pub each : (node : ℕ) → IsWrittenAt changes hi lo node ⊎ IsLeftAt changes old_hi old_lo hi lo node
 
--- the part with this number is listed for some node that changes
-abbrev pub ReadsAny : List (Vec ℕ Global) → List WordChange → ℕ → Type 0
-ReadsAny readers = IsReached (λ (change : WordChange). listed_at readers change.node)
+-- the part with this number reads some node that changes
+pub record ReadsAny (parts : List MachinePart) (changes : List WordChange) (k : ℕ) : Type 0 where
+  pub change : WordChange
+  pub changes_it : Contains changes change
+  pub reads : ReadsAt parts k change.node
+
+-- the part has members, and no code
+pub record IsBare (part : MachinePart) : Type 0 where
+  pub some : 0 < part.members
+  pub none : part.code ≡ None
+
+-- the part with this number was evaluated, and stays marked: in a joining step each does, in a plain one those that are stale
+abbrev pub StaysOn : Bool → List MachinePart → List ℕ → ℕ → Type 0
+StaysOn joining parts done k = Contains done k × ((joining ≡ true) ⊎ IsStale parts k)
 
 -- a column takes a step, plain or joining, and the bit tells whether the step changed it
 pub record StepsTo (joining : Bool) (parts : List MachinePart) (marks new_marks : List Bool) (state next : List Tern) (bit : Bool) : Type 0 where

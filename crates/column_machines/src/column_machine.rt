@@ -1,27 +1,37 @@
 //! What moves columns: a machine that steps them together, or one that takes them in turn.
-ghost use Rattle.std.specs.Prelude.{◌≡◌, ℕ, ◌<◌, ◌≤◌, ◌⊎◌, length, slice_index_or, slice_set, Err, IfOk, IfErr};
+ghost use Rattle.std.specs.Prelude.{List, ◌≡◌, ℕ, ◌+◌, ◌<◌, ◌≤◌, ◌⊎◌, length, slice_index_or, slice_set, Err, IfOk, IfErr, OnOk, OnErr};
+ghost use Rattle.std.specs.Bool.{OnTrue, OnFalse};
 ghost use Rattle.switch_paths.specs.declared.TheConstants.{RAILS};
-ghost use Rattle.switch_paths.specs.Words.{nodes, IsRailed, IsStep};
+ghost use Rattle.switch_paths.specs.Words.{GraphData, nodes, IsRailed, IsSound, IsStep, IsWired};
 ghost use Rattle.settling.specs.declared.settling.TheConstants.{MOST_LIMIT};
 ghost use Rattle.settling.specs.declared.settling.Settled.{Settled};
 ghost use Rattle.settling.specs.Settling.{Settles};
-ghost use Rattle.analysis_cache.specs.Keeping.{texts_of};
-ghost use Rattle.circuit_texts.specs.Building.{Builds};
+ghost use Rattle.channel_groups.specs.Changes.{undo};
+ghost use Rattle.group_text.specs.Texts.{GroupTextData};
+ghost use Rattle.group_analysis.specs.Using.{used_texts};
+ghost use Rattle.analysis_cache.specs.Keeping.{texts_of, IsGrown};
+ghost use Rattle.circuit_texts.specs.Building.{Builds, IsCutOff};
 ghost use Rattle.circuit_texts.specs.Sizes.{TellsRefused};
-ghost use Rattle.column_machines.specs.Building.{IsCutInColumns};
-ghost use Rattle.column_machines.specs.Columns.{column_states, HasSoundColumn, HasStates};
-ghost use Rattle.column_machines.specs.Moving.{columns_of, highs_of, lows_of, column_in, FitsInColumns};
+ghost use Rattle.unit_step.specs.declared.editing.TheConstants.{NEW_NODES};
+ghost use Rattle.column_stage.specs.Standing.{IsCutInColumns};
+ghost use Rattle.column_machines.specs.Columns.{column_states, CoversInWords, HasSoundColumn, HasStates};
+ghost use Rattle.column_machines.specs.Editing.{AreKeptIn, GrowsWords};
+ghost use Rattle.column_machines.specs.Moving.{columns_of, highs_of, lows_of, column_in, last_in, spare_in, CanFollow, CoversInColumns, EditsColumns, FitsInColumns, IsInTurn, IsKeptByColumns, IsOfKind, IsTogether, KeepsColumnsButRoom};
+ghost use Rattle.column_machines.specs.declared.column_machine.ColumnMachine.TheVariants.{Together};
 ghost use Rattle.column_machines.specs.Running.{AreColumns};
 ghost use Rattle.column_machines.specs.Turns.{FitsInTurn};
 
 use crate::machine::WordMachine;
 use crate::making::some_state;
+use crate::rails::{Rails, grow_rails};
 use crate::turns::TurnMachine;
 use analysis_cache::{Analyst, Kept};
+use channel_groups::Change;
 use circuit_texts::BuildFault;
 use settling::{MOST_LIMIT, Settled};
 use std::alloc::Global;
 use switch_paths::Graph;
+use ternary::NoMemory;
 use unit_step::{Codes, Machine};
 use word_settling::WordStepper;
 
@@ -119,7 +129,7 @@ impl ColumnMachine {
 
     /// Gives a node that is no rail these words; all other nodes stay.
     ///
-    /// In each column some rail of the node is set. The graph is meant that is handed in: the machine fits it
+    /// In each column some rail of the node is set. The graph is meant that is handed in: the machine covers and fits it
     /// afterwards if it did before. It takes no memory.
     pub fn place(&mut self, graph: &Graph, node: usize, hi: u64, lo: u64)
         requires inside { node < length (highs_of self.old) }
@@ -128,6 +138,10 @@ impl ColumnMachine {
         ensures highs { highs_of self.new ≡ slice_set (highs_of self.old) node hi }
         ensures lows { lows_of self.new ≡ slice_set (lows_of self.old) node lo }
         ensures columns { columns_of self.new ≡ columns_of self.old }
+        ensures last { last_in self.new ≡ last_in self.old }
+        ensures kind { IsOfKind self.old self.new }
+        ensures known { (g : GraphData) (kept : List GroupTextData) → IsKeptByColumns g kept self.old → IsKeptByColumns g kept self.new }
+        ensures covers { CoversInColumns graph.now self.old → CoversInColumns graph.now self.new }
         ensures fits { FitsInColumns graph.now self.old → FitsInColumns graph.now self.new }
     {
         match self {
@@ -142,6 +156,7 @@ impl ColumnMachine {
             → IsStep graph.now (column_in self.old column) (column_in self.new column) }
         ensures fits { FitsInColumns graph.now self.old → FitsInColumns graph.now self.new }
         ensures columns { columns_of self.new ≡ columns_of self.old }
+        ensures kind { IsOfKind self.old self.new }
     {
         match self {
             ColumnMachine::Together(machine) => {
@@ -164,12 +179,158 @@ impl ColumnMachine {
             → Settles graph.now (column_in self.old column) limit (column_in self.new column) (slice_index_or out.new column past).steps (slice_index_or out.new column past).joined }
         ensures fits { FitsInColumns graph.now self.old → FitsInColumns graph.now self.new }
         ensures columns { columns_of self.new ≡ columns_of self.old }
+        ensures kind { IsOfKind self.old self.new }
     {
         match self {
             ColumnMachine::Together(machine) => machine.settle(graph, limit, out),
             ColumnMachine::InTurn(machine) => machine.run(graph, Some(limit), out),
         }
     }
+}
+
+impl ColumnMachine {
+    /// Whether all columns step together.
+    pub fn is_together(&self) -> bool
+        ensures yes { OnTrue result (IsTogether self.now) }
+        ensures no { OnFalse result (IsInTurn self.now) }
+    {
+        match self {
+            ColumnMachine::Together(_) => true,
+            ColumnMachine::InTurn(_) => false,
+        }
+    }
+
+    /// Takes room for the states of as many new nodes as one edit makes at most.
+    ///
+    /// Nothing else changes. Columns that take turns follow no edit, and have none.
+    pub fn reserve(&mut self) -> Result<(), NoMemory>
+        ensures room { OnOk result (NEW_NODES ≤ spare_in self.new) }
+        ensures same { KeepsColumnsButRoom self.old self.new }
+    {
+        match self {
+            ColumnMachine::Together(machine) => machine.reserve(),
+            ColumnMachine::InTurn(_) => Err(NoMemory),
+        }
+    }
+
+    /// What moves the columns of the graph after an edit, where it covered the graph before it: columns that step together
+    /// follow it, as [`WordMachine::edit`] says. Else only the words are left, with X for each new node, and the texts of the
+    /// last build are in front of what is kept.
+    pub fn edit(
+        self,
+        graph: &Graph,
+        change: &Change,
+        kept: &mut Kept,
+    ) -> Result<ColumnMachine, Rails>
+        requires covers { CanFollow (undo graph.now change.now) self }
+        requires wired { IsWired (undo graph.now change.now) }
+        requires room { nodes graph.now ≤ length (highs_of self) + spare_in self }
+        requires last { AreKeptIn (last_in self) (texts_of kept.old) }
+        ensures edits { IfOk result (EditsColumns graph.now change.now self) }
+        ensures kept { OnOk result (kept.new ≡ kept.old) }
+        ensures rails { IfErr result (λ rails. GrowsWords graph.now (columns_of self) (highs_of self) (lows_of self) rails.hi.items rails.lo.items) }
+        ensures gone { OnErr result (texts_of kept.new ≡ used_texts (last_in self) (texts_of kept.old)) }
+        ensures bound { kept.new.bound ≡ kept.old.bound }
+    {
+        match self {
+            ColumnMachine::Together(machine) => edited(machine, graph, change, kept),
+            ColumnMachine::InTurn(machine) => Err(words_left(machine, graph)),
+        }
+    }
+
+    /// Moves the texts of the last build, if they only count as standing there, to the front of what is kept, for what goes on
+    /// without the machine. It takes no memory.
+    pub fn use_last(&self, kept: &mut Kept)
+        requires { AreKeptIn (last_in self.now) (texts_of kept.old) }
+        ensures texts { texts_of kept.new ≡ used_texts (last_in self.now) (texts_of kept.old) }
+        ensures bound { kept.new.bound ≡ kept.old.bound }
+    {
+        match self {
+            ColumnMachine::Together(machine) => machine.use_last(kept),
+            ColumnMachine::InTurn(_) => {}
+        }
+    }
+
+    /// Both rails of each node's states, for what goes on without the machine.
+    pub fn into_rails(self) -> Rails
+        ensures highs { result.hi.items ≡ highs_of self }
+        ensures lows { result.lo.items ≡ lows_of self }
+        ensures columns_are { AreColumns (columns_of self) result.hi.items result.lo.items }
+    {
+        match self {
+            ColumnMachine::Together(machine) => machine.into_rails(),
+            ColumnMachine::InTurn(machine) => machine.into_rails(),
+        }
+    }
+
+    /// Gives the stale parts of columns that step together their codes, as [`WordMachine::finish`] says.
+    pub fn finish<A: Analyst>(
+        &mut self,
+        graph: &Graph,
+        kept: &mut Kept,
+        analyst: &mut A,
+    ) -> Result<u64, BuildFault>
+        requires together { IsTogether self.old }
+        requires covers { CoversInColumns graph.now self.old }
+        requires railed { IsRailed graph.now }
+        requires sound { (column : ℕ) → column < columns_of self.old → IsSound (column_in self.old column) }
+        requires known { IsKeptByColumns graph.now (texts_of kept.old) self.old }
+        requires last { AreKeptIn (last_in self.old) (texts_of kept.old) }
+        ensures together { IsTogether self.new }
+        ensures fits { OnOk result (FitsInColumns graph.now self.new) }
+        ensures columns { columns_of self.new ≡ columns_of self.old }
+        ensures highs { highs_of self.new ≡ highs_of self.old }
+        ensures lows { lows_of self.new ≡ lows_of self.old }
+        ensures builds { IfOk result (λ count. (large : ℕ) → Builds large graph.now kept.old.bound (used_texts (last_in self.old) (texts_of kept.old)) (used_texts (last_in self.new) (texts_of kept.new))
+            (A.analysed analyst.old) (A.analysed analyst.new) count) }
+        ensures there { OnOk result (AreKeptIn (last_in self.new) (texts_of kept.new)) }
+        ensures bound { kept.new.bound ≡ kept.old.bound }
+        ensures cut_off { result ≡ Err BuildFault.NoMemory → (large : ℕ) → IsCutOff large graph.now (used_texts (last_in self.old) (texts_of kept.old)) (used_texts (last_in self.old) (texts_of kept.new))
+            (A.analysed analyst.old) (A.analysed analyst.new) }
+        ensures refused { IfErr result (λ fault. fault ≡ BuildFault.NoMemory) }
+        ensures err { OnErr result (self.new ≡ self.old) }
+        ensures grown { OnErr result (IsGrown kept.old kept.new) }
+    {
+        match self {
+            ColumnMachine::Together(machine) => machine.finish(graph, kept, analyst),
+            ColumnMachine::InTurn(_) => Err(BuildFault::NoMemory),
+        }
+    }
+}
+
+// Columns that step together, after an edit.
+fn edited(
+    machine: WordMachine,
+    graph: &Graph,
+    change: &Change,
+    kept: &mut Kept,
+) -> Result<ColumnMachine, Rails>
+    requires covers { CoversInWords (undo graph.now change.now) machine }
+    requires wired { IsWired (undo graph.now change.now) }
+    requires room { nodes graph.now ≤ length machine.hi + machine.spare }
+    requires last { AreKeptIn machine.machine.last (texts_of kept.old) }
+    ensures edits { IfOk result (EditsColumns graph.now change.now (Together machine)) }
+    ensures kept { OnOk result (kept.new ≡ kept.old) }
+    ensures rails { IfErr result (λ rails. GrowsWords graph.now machine.columns machine.hi machine.lo rails.hi.items rails.lo.items) }
+    ensures gone { OnErr result (texts_of kept.new ≡ used_texts machine.machine.last (texts_of kept.old)) }
+    ensures bound { kept.new.bound ≡ kept.old.bound }
+{
+    match machine.edit(graph, change, kept) {
+        Ok(next) => Ok(ColumnMachine::Together(next)),
+        Err(rails) => Err(rails),
+    }
+}
+
+// The words of columns that took turns, with X for each node that is new to a graph, in room that is there.
+fn words_left(machine: TurnMachine, graph: &Graph) -> Rails
+    requires { nodes graph.now ≤ length machine.hi }
+    ensures { GrowsWords graph.now machine.columns machine.hi machine.lo result.hi.items result.lo.items }
+{
+    // a call for the proof alone: there are at most 64 columns
+    let _few = machine.columns();
+    let mut rails = machine.into_rails();
+    grow_rails(&mut rails, graph.nodes());
+    rails
 }
 
 // Has each column take a unit step, in turn.

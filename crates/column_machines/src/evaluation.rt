@@ -1,18 +1,16 @@
 //! The evaluation of the marked parts: their codes run on the old words, and what changes is noted.
-ghost use Rattle.std.specs.Prelude.{◌≡◌, ℕ, ◌+◌, ◌*◌, ◌<◌, ◌≤◌, List, [], length, map, take, All, Some, vec_len, vec_capacity, slice_index};
-ghost use Rattle.ternary.specs.declared.tern.Tern.{Tern};
-ghost use Rattle.switch_paths.specs.Switching.{state_at};
-ghost use Rattle.straight_code.specs.Code.{code_value};
-ghost use Rattle.word_columns.specs.Columns.{is_in_column, AreRailsIn};
+ghost use Rattle.std.specs.Prelude.{◌≡◌, ℕ, ◌+◌, ◌<◌, ◌≤◌, List, [], length, All, vec_len, vec_capacity};
+ghost use Rattle.word_columns.specs.Columns.{is_in_column};
 ghost use Rattle.machine_parts.specs.declared.part.MachinePart.{MachinePart};
 ghost use Rattle.machine_parts.specs.Words.{Stands, IsMarked, count_marked, marked_sum, members_of};
-ghost use Rattle.column_machines.specs.Noting.{after_word, differs_in, IsNextOf, Notes};
-ghost use Rattle.column_machines.specs.Evaluating.{rooms, IsEven, Reports, Evaluated, IsSeated};
+ghost use Rattle.machine_parts.specs.Evaluating as single;
+ghost use Rattle.machine_laws.specs.Words.{AreSeated};
+ghost use Rattle.unit_step.specs.Columns.{GivesWords};
+ghost use Rattle.column_machines.specs.Noting.{after_word, differs_in, Notes};
+ghost use Rattle.column_machines.specs.Evaluating.{rooms, IsEven, Reports, Evaluated};
 
 use part_lists::Agenda;
-use straight_code::Code;
-use unit_step::MachinePart;
-use word_columns::run_words;
+use unit_step::{Machine, MachinePart};
 
 // A node that takes other words.
 #[derive(Clone, Copy)]
@@ -25,8 +23,7 @@ pub(crate) struct WordChange {
 // Where a step works, in room that was taken before.
 #[derive(Drop)]
 pub(crate) struct Workspace {
-    // all that a code's instructions read, and both rails of its outputs
-    pub(crate) values: Vec<u64>,
+    // both rails of a code's outputs
     pub(crate) out_hi: Vec<u64>,
     pub(crate) out_lo: Vec<u64>,
     // the nodes that change in this step
@@ -39,34 +36,112 @@ pub(crate) struct Workspace {
 pub(crate) fn evaluate_all(
     joining: bool,
     used: u64,
-    parts: &[MachinePart],
+    machine: &mut Machine,
     hi: &[u64],
     lo: &[u64],
     agenda: &mut Agenda,
     workspace: &mut Workspace,
 )
-    requires counted { length agenda.old ≡ length parts.now }
+    requires counted { length agenda.old ≡ length machine.old.parts }
     requires words { length lo.now ≡ length hi.now }
-    requires seated { All (IsSeated (length hi.now) (rooms workspace.old)) parts.now }
+    requires nodes { length hi.now ≡ length machine.old.state }
+    requires outs { All (λ part. part.members ≤ (rooms workspace.old).outs) machine.old.parts }
     requires rails { IsEven workspace.old }
     requires changes { workspace.old.changes.items ≡ [] }
     requires done { workspace.old.done.items ≡ [] }
-    requires changes_room { marked_sum members_of parts.now agenda.old ≤ vec_capacity workspace.old.changes }
+    requires changes_room { marked_sum members_of machine.old.parts agenda.old ≤ vec_capacity workspace.old.changes }
     requires done_room { count_marked agenda.old ≤ vec_capacity workspace.old.done }
-    ensures evaluated { Evaluated joining parts.now used hi.now lo.now agenda.old agenda.new workspace.new.changes.items workspace.new.done.items }
+    ensures evaluated { Evaluated joining machine.old.parts used hi.now lo.now agenda.old agenda.new workspace.new.changes.items
+        workspace.new.done.items }
     ensures rest { (k : ℕ) → ¬ IsMarked agenda.new k }
     ensures count { length agenda.new ≡ length agenda.old }
+    ensures machine { machine.new ≡ machine.old }
     ensures rooms { rooms workspace.new ≡ rooms workspace.old }
     ensures rails { IsEven workspace.new }
 {
     while let Some(k) = agenda.pop() {
-        evaluate(joining, used, &parts[k], hi, lo, workspace);
+        evaluate(joining, used, machine, k, hi, lo, workspace);
         workspace.done.push_reserved(k);
     }
 }
 
-// Runs the code of a part, if it has one, and notes its members that change in some used column.
+// Runs the code of the part with this number, if it has one, and notes its members that change in some used column.
 fn evaluate(
+    joining: bool,
+    used: u64,
+    machine: &mut Machine,
+    k: usize,
+    hi: &[u64],
+    lo: &[u64],
+    workspace: &mut Workspace,
+)
+    requires inside { k < length machine.old.parts }
+    requires words { length lo.now ≡ length hi.now }
+    requires nodes { length hi.now ≡ length machine.old.state }
+    requires outs { All (λ part. part.members ≤ (rooms workspace.old).outs) machine.old.parts }
+    requires rails { IsEven workspace.old }
+    requires room { (part : MachinePart) → Stands machine.old.parts k part
+        → vec_len workspace.old.changes + part.members ≤ vec_capacity workspace.old.changes }
+    ensures changes { Reports joining machine.old.parts used hi.now lo.now k workspace.old.changes.items workspace.new.changes.items }
+    ensures few { (part : MachinePart) → Stands machine.old.parts k part
+        → vec_len workspace.new.changes ≤ vec_len workspace.old.changes + part.members }
+    ensures machine { machine.new ≡ machine.old }
+    ensures done { workspace.new.done ≡ workspace.old.done }
+    ensures rooms { rooms workspace.new ≡ rooms workspace.old }
+    ensures rails { IsEven workspace.new }
+{
+    run_part(machine, k, hi, lo, workspace);
+    note_part(joining, used, machine.all_parts(), k, hi, lo, workspace);
+}
+
+// Runs the code of the part with this number, if it has one: what it gives to its members comes to the front.
+fn run_part(machine: &mut Machine, k: usize, hi: &[u64], lo: &[u64], workspace: &mut Workspace)
+    requires inside { k < length machine.old.parts }
+    requires words { length lo.now ≡ length hi.now }
+    requires nodes { length hi.now ≡ length machine.old.state }
+    requires outs { All (λ part. part.members ≤ (rooms workspace.old).outs) machine.old.parts }
+    requires rails { IsEven workspace.old }
+    ensures gives { (part : MachinePart) → Stands machine.old.parts k part
+        → GivesWords part hi.now lo.now workspace.new.out_hi.items workspace.new.out_lo.items }
+    ensures machine { machine.new ≡ machine.old }
+    ensures changes { workspace.new.changes ≡ workspace.old.changes }
+    ensures done { workspace.new.done ≡ workspace.old.done }
+    ensures rooms { rooms workspace.new ≡ rooms workspace.old }
+    ensures rails { IsEven workspace.new }
+{
+    machine.run_columns(k, hi, lo, &mut workspace.out_hi, &mut workspace.out_lo);
+}
+
+// Notes the members of the part with this number that change in some used column, by what its code gave.
+fn note_part(
+    joining: bool,
+    used: u64,
+    parts: &[MachinePart],
+    k: usize,
+    hi: &[u64],
+    lo: &[u64],
+    workspace: &mut Workspace,
+)
+    requires inside { k < length parts.now }
+    requires words { length lo.now ≡ length hi.now }
+    requires seated { AreSeated (length hi.now) parts.now }
+    requires outs { All (λ part. part.members ≤ (rooms workspace.old).outs) parts.now }
+    requires rails { IsEven workspace.old }
+    requires room { (part : MachinePart) → Stands parts.now k part
+        → vec_len workspace.old.changes + part.members ≤ vec_capacity workspace.old.changes }
+    requires gives { (part : MachinePart) → Stands parts.now k part
+        → GivesWords part hi.now lo.now workspace.old.out_hi.items workspace.old.out_lo.items }
+    ensures changes { Reports joining parts.now used hi.now lo.now k workspace.old.changes.items workspace.new.changes.items }
+    ensures few { (part : MachinePart) → Stands parts.now k part → vec_len workspace.new.changes ≤ vec_len workspace.old.changes + part.members }
+    ensures done { workspace.new.done ≡ workspace.old.done }
+    ensures rooms { rooms workspace.new ≡ rooms workspace.old }
+    ensures rails { IsEven workspace.new }
+{
+    note_outputs(joining, used, &parts[k], hi, lo, workspace);
+}
+
+// Notes the members of a part that change in some used column, by what its code, if it has one, gave.
+fn note_outputs(
     joining: bool,
     used: u64,
     part: &MachinePart,
@@ -75,9 +150,11 @@ fn evaluate(
     workspace: &mut Workspace,
 )
     requires words { length lo.now ≡ length hi.now }
-    requires seated { IsSeated (length hi.now) (rooms workspace.old) part.now }
+    requires seated { (room : single.Rooms) × single.IsSeated (length hi.now) room part.now }
+    requires outs { part.now.members ≤ (rooms workspace.old).outs }
     requires rails { IsEven workspace.old }
     requires room { vec_len workspace.old.changes + part.now.members ≤ vec_capacity workspace.old.changes }
+    requires gives { GivesWords part.now hi.now lo.now workspace.old.out_hi.items workspace.old.out_lo.items }
     ensures changes { (parts : List MachinePart) (k : ℕ) → Stands parts k part.now
         → Reports joining parts used hi.now lo.now k workspace.old.changes.items workspace.new.changes.items }
     ensures few { vec_len workspace.new.changes ≤ vec_len workspace.old.changes + part.now.members }
@@ -85,8 +162,7 @@ fn evaluate(
     ensures rooms { rooms workspace.new ≡ rooms workspace.old }
     ensures rails { IsEven workspace.new }
 {
-    if let Some(code) = &part.code {
-        run_part(code, &part.map, hi, lo, workspace);
+    if let Some(_code) = &part.code {
         let ones = &workspace.out_hi[..part.members];
         let others = &workspace.out_lo[..part.members];
         note_all(
@@ -100,65 +176,6 @@ fn evaluate(
             &mut workspace.changes,
         );
     }
-}
-
-// Runs code on the words of the nodes of a map.
-fn run_part(code: &Code, nodes: &[usize], hi: &[u64], lo: &[u64], workspace: &mut Workspace)
-    requires words { length lo.now ≡ length hi.now }
-    requires nodes { length nodes.now ≡ code.now.inputs }
-    requires below { All (λ node. node < length hi.now) nodes.now }
-    requires values { 2 + 2 * code.now.inputs + length code.now.instructions ≤ length workspace.old.values.items }
-    requires rails { IsEven workspace.old }
-    requires out { length code.now.outputs ≤ length workspace.old.out_hi.items }
-    ensures value { (column : ℕ) (state : List Tern) → column < 64 → AreRailsIn column hi.now lo.now state
-        → AreRailsIn column (take (length code.now.outputs) workspace.new.out_hi.items) (take (length code.now.outputs) workspace.new.out_lo.items)
-        (code_value code.now (map (state_at state) nodes.now)) }
-    ensures changes { workspace.new.changes ≡ workspace.old.changes }
-    ensures done { workspace.new.done ≡ workspace.old.done }
-    ensures rooms { rooms workspace.new ≡ rooms workspace.old }
-    ensures rails { IsEven workspace.new }
-{
-    run_front(
-        code,
-        nodes,
-        hi,
-        lo,
-        &mut workspace.values,
-        &mut workspace.out_hi,
-        &mut workspace.out_lo,
-    );
-}
-
-// Runs code on the words of the nodes of a map, and writes those of its outputs to the front.
-fn run_front(
-    code: &Code,
-    nodes: &[usize],
-    hi: &[u64],
-    lo: &[u64],
-    values: &mut [u64],
-    out_hi: &mut [u64],
-    out_lo: &mut [u64],
-)
-    requires words { length lo.now ≡ length hi.now }
-    requires nodes { length nodes.now ≡ code.now.inputs }
-    requires below { All (λ node. node < length hi.now) nodes.now }
-    requires values { 2 + 2 * code.now.inputs + length code.now.instructions ≤ length values.old }
-    requires highs { length code.now.outputs ≤ length out_hi.old }
-    requires lows { length code.now.outputs ≤ length out_lo.old }
-    ensures { (column : ℕ) (state : List Tern) → column < 64 → AreRailsIn column hi.now lo.now state
-        → AreRailsIn column (take (length code.now.outputs) out_hi.new) (take (length code.now.outputs) out_lo.new)
-        (code_value code.now (map (state_at state) nodes.now)) }
-{
-    let outputs = code.outputs();
-    run_words(
-        code,
-        hi,
-        lo,
-        nodes,
-        values,
-        &mut out_hi[..outputs],
-        &mut out_lo[..outputs],
-    );
 }
 
 // Notes each node at the front of a map whose next words differ from its words in some used column.

@@ -1,14 +1,16 @@
 //! The machine of columns.
-ghost use Rattle.std.specs.Prelude.{◌≡◌, ◌≢◌, ℕ, ◌^◌, ◌<◌, ◌≤◌, true, false, length, replicate, slice_index_or, None, IfOk};
+ghost use Rattle.std.specs.Prelude.{◌≡◌, ◌≢◌, ℕ, ◌^◌, ◌<◌, ◌≤◌, true, false, length, slice_index_or, None, Some, IfOk};
 ghost use Rattle.switch_paths.specs.declared.TheConstants.{RAILS};
 ghost use Rattle.switch_paths.specs.Words.{nodes, IsWired, IsStep};
 ghost use Rattle.settling.specs.declared.settling.TheConstants.{MOST_LIMIT};
 ghost use Rattle.settling.specs.declared.settling.Settled.{Settled};
 ghost use Rattle.settling.specs.Settling.{IsJoinStep, StaysOrBecomesX, Settles};
 ghost use Rattle.word_columns.specs.Columns.{is_in_column};
-ghost use Rattle.machine_laws.specs.Words.{AreSeated, FitsGraph};
-ghost use Rattle.machine_parts.specs.Parts.{ReadsAt, IsStale, AreApart};
-ghost use Rattle.column_machines.specs.Columns.{column_of, FitsInWords, HasSoundColumn, HasStates};
+ghost use Rattle.machine_parts.specs.Words.{MarksAll};
+ghost use Rattle.machine_parts.specs.Stepping.{Concerns};
+ghost use Rattle.machine_laws.specs.Words.{FitsGraph, HasLast};
+ghost use Rattle.column_machines.specs.Columns.{column_of, CoversInWords, FitsInWords, HasSoundColumn, HasStates};
+ghost use Rattle.column_machines.specs.Making.{IsMadeOf};
 ghost use Rattle.column_machines.specs.Running.{AreColumns};
 ghost use Rattle.column_machines.specs.Stepping.{StepsColumns};
 ghost use Rattle.column_machines.specs.Placing.{PlacesWords};
@@ -16,49 +18,49 @@ ghost use Rattle.column_machines.specs.Placing.{PlacesWords};
 use crate::advance::advance;
 use crate::evaluation::Workspace;
 use crate::making::{used_columns, workspace_for};
-use part_lists::{Agenda, lists_of, mark_all};
+use crate::rails::Rails;
+use part_lists::{Agenda, mark_all};
 use settling::{MOST_LIMIT, Settled};
 use std::alloc::Global;
 use std::marker::Model;
 use switch_paths::{Graph, graphs_are_wired};
 use ternary::NoMemory;
-use unit_step::{Machine, MachinePart};
+use unit_step::Machine;
 use word_settling::{WordStepper, settle_each};
 
-/// A compiled circuit with up to 64 states: the parts of its groups, which of them are marked, and both rails of
-/// each node's states, bit i for column i.
+/// A compiled circuit with up to 64 states: a machine, whose parts are those of its groups, which of them are marked, and both
+/// rails of each node's states, bit i for column i.
 ///
-/// A step runs the code of the marked parts alone, once for all columns. All its room is taken when the machine
-/// is made.
+/// A step runs the code of the marked parts alone, once for all columns. The machine itself doesn't step: it is there for its
+/// parts, and follows edits. All room is taken when the machine of columns is made or follows an edit.
 #[derive(Drop)]
 pub struct WordMachine {
-    columns: u32,
+    pub(crate) columns: u32,
     // the bits of the columns
-    used: u64,
-    parts: Vec<MachinePart>,
-    agenda: Agenda,
-    // for each node the parts that read it, and the one that has it as a member
-    readers: Vec<Vec<usize>>,
-    owners: Vec<Vec<usize>>,
-    hi: Vec<u64>,
-    lo: Vec<u64>,
-    workspace: Workspace,
+    pub(crate) used: u64,
+    pub(crate) machine: Machine,
+    pub(crate) agenda: Agenda,
+    pub(crate) hi: Vec<u64>,
+    pub(crate) lo: Vec<u64>,
+    pub(crate) workspace: Workspace,
 }
 
 impl Model for WordMachine {
+    ghost use Rattle.std.specs.Prelude.{min};
     ghost use Rattle.column_machines.specs.Columns.{WordData};
+    ghost use Rattle.column_machines.specs.Making.{spare_of};
     ghost use Rattle.column_machines.specs.Evaluating.{rooms, IsEven};
     ghost use Rattle.column_machines.specs.Running.{IsWordMachine};
 
     ghost Value = { WordData };
 
-    ghost view = { λ m. record { columns = m.columns; parts = m.parts.items; marks = m.agenda; hi = m.hi.items; lo = m.lo.items } };
+    ghost view = { λ m. record { columns = m.columns; machine = m.machine; marks = m.agenda; hi = m.hi.items; lo = m.lo.items; spare = min (spare_of m.hi m.lo) m.machine.spare } };
 
-    ghost invariant = { λ m. IsWordMachine m.columns m.used m.parts.items m.agenda m.readers.items m.owners.items m.hi.items m.lo.items (rooms m.workspace) × IsEven m.workspace };
+    ghost invariant = { λ m. IsWordMachine m.columns m.used m.machine m.agenda m.hi.items m.lo.items (rooms m.workspace) × IsEven m.workspace };
 }
 
 impl WordMachine {
-    // The machine of columns with the parts of a machine that fits a graph, all of them marked, in these states.
+    // The machine of columns of a machine that fits a graph, with all parts marked, in these states.
     pub(crate) fn of_machine(
         alloc: Global,
         graph: &Graph,
@@ -71,50 +73,64 @@ impl WordMachine {
         requires few { columns ≤ 64 }
         requires machine { FitsGraph graph.now machine }
         requires without { machine.wide ≡ None }
+        requires last { HasLast graph.now machine.last }
         requires highs { length hi.now ≡ nodes graph.now }
         requires lows { length lo.now ≡ nodes graph.now }
         requires sound { (column : ℕ) → column < columns → HasSoundColumn graph.now hi.now lo.now column }
         ensures fits { IfOk result (λ made. FitsInWords graph.now made) }
         ensures fresh { IfOk result (λ made. (made.columns ≡ columns) × (made.hi ≡ hi.now) × (made.lo ≡ lo.now)) }
+        ensures machine { IfOk result (λ made. made.machine ≡ machine) }
     {
-        WordMachine::of_parts(alloc, columns, machine.into_parts(), hi, lo)
+        WordMachine::with_marks(alloc, columns, machine, hi, lo)
     }
 
-    // A machine of these parts, all of them marked, in these states.
-    fn of_parts(
+    // The machine of columns of a machine, with all parts marked, in these states.
+    fn with_marks(
         alloc: Global,
         columns: u32,
-        parts: Vec<MachinePart>,
+        machine: Machine,
         hi: &[u64],
         lo: &[u64],
     ) -> Result<WordMachine, NoMemory>
         requires some { 1 ≤ columns }
         requires few { columns ≤ 64 }
         requires columns_are { AreColumns columns hi.now lo.now }
-        requires seated { AreSeated (length hi.now) parts.items }
-        requires apart { AreApart parts.items }
-        requires fresh { (k : ℕ) → ¬ IsStale parts.items k }
-        requires reads { (k node : ℕ) → ReadsAt parts.items k node → node < length hi.now }
-        ensures { IfOk result (λ machine. machine ≡ record { columns = columns; parts = parts.items; marks = replicate (length parts.items) true; hi = hi.now; lo = lo.now }) }
+        requires nodes { length hi.now ≡ length machine.state }
+        ensures { IfOk result (IsMadeOf columns machine hi.now lo.now) }
     {
-        let nodes = hi.len();
-        let agenda = Agenda::all(alloc, parts.len())?;
-        let readers = lists_of(alloc, false, &parts, nodes)?;
-        let owners = lists_of(alloc, true, &parts, nodes)?;
-        let workspace = workspace_for(alloc, &parts)?;
+        let parts = machine.parts();
+        let members = machine.most_members();
+        let agenda = Agenda::all(alloc, parts)?;
+        let workspace = workspace_for(alloc, members, parts)?;
         let highs = Vec::from_slice(alloc, hi)?;
         let lows = Vec::from_slice(alloc, lo)?;
         Ok(WordMachine {
             columns,
             used: used_columns(columns),
-            parts,
+            machine,
             agenda,
-            readers,
-            owners,
             hi: highs,
             lo: lows,
             workspace,
         })
+    }
+
+    // Both rails of each node's states, for what goes on without the machine.
+    pub(crate) fn into_rails(self) -> Rails
+        ensures highs { result.hi.items ≡ self.hi }
+        ensures lows { result.lo.items ≡ self.lo }
+        ensures columns_are { AreColumns self.columns result.hi.items result.lo.items }
+    {
+        let WordMachine {
+            columns: _columns,
+            used: _used,
+            machine: _machine,
+            agenda: _agenda,
+            hi,
+            lo,
+            workspace: _workspace,
+        } = self;
+        Rails { hi, lo }
     }
 
     /// How many columns it has.
@@ -143,13 +159,14 @@ impl WordMachine {
     /// Gives a node that is no rail these words, and marks the parts that have it as a member or read it; all
     /// other nodes stay.
     ///
-    /// In each column some rail of the node is set. The graph is meant that is handed in: the machine fits it
+    /// In each column some rail of the node is set. The graph is meant that is handed in: the machine covers and fits it
     /// afterwards if it did before. It takes no memory.
     pub fn place(&mut self, graph: &Graph, node: usize, hi: u64, lo: u64)
         requires inside { node < length self.old.hi }
         requires no_rail { RAILS ≤ node }
         requires states { HasStates self.old.columns hi lo }
         ensures places { PlacesWords node hi lo self.old self.new }
+        ensures covers { CoversInWords graph.now self.old → CoversInWords graph.now self.new }
         ensures fits { FitsInWords graph.now self.old → FitsInWords graph.now self.new }
     {
         graphs_are_wired(graph);
@@ -165,8 +182,7 @@ impl WordMachine {
     {
         self.hi[node] = hi;
         self.lo[node] = lo;
-        mark_all(&self.owners[node], &mut self.agenda);
-        mark_all(&self.readers[node], &mut self.agenda);
+        mark_concerned(&self.machine, node, &mut self.agenda);
     }
 
     /// Settles each column, as it would settle alone: all take unit steps together while some column changes, at
@@ -214,8 +230,7 @@ impl WordMachine {
         advance(
             joining,
             self.used,
-            &self.parts,
-            &self.readers,
+            &mut self.machine,
             &mut self.hi,
             &mut self.lo,
             &mut self.agenda,
@@ -261,5 +276,26 @@ impl WordStepper for WordMachine {
         ensures beyond { (column : ℕ) → self.old.columns ≤ column → is_in_column column result ≡ false }
     {
         self.step_on(graph, true)
+    }
+}
+
+// Marks the parts that have a node as a member or read it.
+fn mark_concerned(machine: &Machine, node: usize, agenda: &mut Agenda)
+    requires inside { node < length machine.now.state }
+    requires counted { length agenda.old ≡ length machine.now.parts }
+    ensures { MarksAll (λ k. Concerns machine.now.parts k node) agenda.old agenda.new }
+{
+    mark_owner(machine.owner(node), agenda);
+    mark_all(machine.readers(node), agenda);
+}
+
+// Marks the part that owns a node, if one does.
+fn mark_owner(owner: Option<usize>, agenda: &mut Agenda)
+    requires { (k : ℕ) → owner ≡ Some k → k < length agenda.old }
+    ensures { MarksAll (λ k. owner ≡ Some k) agenda.old agenda.new }
+{
+    match owner {
+        Some(k) => agenda.mark(k),
+        None => {}
     }
 }

@@ -1,15 +1,13 @@
 //! What a machine of columns is made of: its columns, and room for its steps.
-ghost use Rattle.std.specs.Prelude.{◌≡◌, ℕ, ◌≤◌, length, vec_capacity, All, IfOk};
+ghost use Rattle.std.specs.Prelude.{◌≡◌, ◌≤◌, length, vec_capacity, IfOk, OnOk};
 ghost use Rattle.ternary.specs.declared.tern.Tern.TheVariants.{Zero, One};
 ghost use Rattle.switch_paths.specs.Rails.{IsSound};
-ghost use Rattle.column_machines.specs.Evaluating.{rooms, IsEven, HasRoomFor};
+ghost use Rattle.column_machines.specs.Evaluating.{IsEven};
 ghost use Rattle.column_machines.specs.Running.{AreUsed};
 
 use crate::evaluation::Workspace;
-use part_lists::most_members;
 use std::alloc::{AllocError, Global};
-use ternary::{NoMemory, Tern};
-use unit_step::{MachinePart, Needs, needs_of};
+use ternary::Tern;
 
 // The bits of the first columns, so many.
 pub(crate) fn used_columns(columns: u32) -> u64
@@ -20,8 +18,8 @@ pub(crate) fn used_columns(columns: u32) -> u64
     u64::MAX >> (64 - columns)
 }
 
-// A sound state of so many nodes: all but the rails are X.
-pub(crate) fn some_state(alloc: Global, nodes: usize) -> Result<Vec<Tern>, AllocError>
+/// A sound state of so many nodes: all but the rails are X.
+pub fn some_state(alloc: Global, nodes: usize) -> Result<Vec<Tern>, AllocError>
     requires { 2 ≤ nodes }
     ensures count { IfOk result (λ state. length state.items ≡ nodes) }
     ensures sound { IfOk result (λ state. IsSound state.items) }
@@ -32,35 +30,54 @@ pub(crate) fn some_state(alloc: Global, nodes: usize) -> Result<Vec<Tern>, Alloc
     Ok(state)
 }
 
-// Room for the steps of these parts.
-pub(crate) fn workspace_for(alloc: Global, parts: &[MachinePart]) -> Result<Workspace, NoMemory>
-    ensures room { IfOk result (λ workspace. HasRoomFor parts.now (rooms workspace)) }
-    ensures rails { IfOk result (λ workspace. IsEven workspace) }
-{
-    match needs_of(parts) {
-        Some(needs) => Ok(workspace_of(alloc, needs, most_members(parts), parts.len())?),
-        None => Err(NoMemory),
-    }
-}
-
-// Room for so much, for so many outputs, and for so many parts.
-fn workspace_of(
+// Room for the steps of so many parts, which have at most so many members.
+pub(crate) fn workspace_for(
     alloc: Global,
-    needs: Needs,
-    outs: usize,
+    members: usize,
     parts: usize,
 ) -> Result<Workspace, AllocError>
-    ensures values { IfOk result (λ workspace. length workspace.values.items ≡ needs.values) }
-    ensures highs { IfOk result (λ workspace. length workspace.out_hi.items ≡ outs) }
-    ensures lows { IfOk result (λ workspace. length workspace.out_lo.items ≡ outs) }
-    ensures changes { IfOk result (λ workspace. needs.changes ≤ vec_capacity workspace.changes) }
+    ensures highs { IfOk result (λ workspace. length workspace.out_hi.items ≡ members) }
+    ensures lows { IfOk result (λ workspace. length workspace.out_lo.items ≡ members) }
+    ensures changes { IfOk result (λ workspace. members ≤ vec_capacity workspace.changes) }
     ensures parts { IfOk result (λ workspace. parts ≤ vec_capacity workspace.done) }
 {
     Ok(Workspace {
-        values: vec![in alloc; 0; needs.values]?,
-        out_hi: vec![in alloc; 0; outs]?,
-        out_lo: vec![in alloc; 0; outs]?,
-        changes: Vec::with_capacity(alloc, needs.changes)?,
+        out_hi: vec![in alloc; 0; members]?,
+        out_lo: vec![in alloc; 0; members]?,
+        changes: Vec::with_capacity(alloc, members)?,
         done: Vec::with_capacity(alloc, parts)?,
     })
+}
+
+// Takes room for so many parts, which have at most so many members, beside what there is.
+pub(crate) fn widen(
+    members: usize,
+    parts: usize,
+    workspace: &mut Workspace,
+) -> Result<(), AllocError>
+    requires { IsEven workspace.old }
+    ensures outs { OnOk result (members ≤ length workspace.new.out_hi.items) }
+    ensures changes { OnOk result (members ≤ vec_capacity workspace.new.changes) }
+    ensures parts { OnOk result (parts ≤ vec_capacity workspace.new.done) }
+    ensures rails { OnOk result (IsEven workspace.new) }
+{
+    widen_outputs(members, workspace)?;
+    workspace.changes.clear();
+    workspace.done.clear();
+    workspace.changes.reserve(members)?;
+    workspace.done.reserve(parts)?;
+    Ok(())
+}
+
+// Takes room for so many outputs.
+fn widen_outputs(members: usize, workspace: &mut Workspace) -> Result<(), AllocError>
+    requires { IsEven workspace.old }
+    ensures outs { OnOk result (members ≤ length workspace.new.out_hi.items) }
+    ensures rails { OnOk result (IsEven workspace.new) }
+{
+    if workspace.out_hi.len() < members {
+        workspace.out_hi.resize(members, 0)?;
+        workspace.out_lo.resize(members, 0)?;
+    }
+    Ok(())
 }

@@ -4,11 +4,11 @@ ghost use Rattle.machine_parts.specs.Marking.{MarksAll};
 ghost use Rattle.word_columns.specs.Columns.{is_in_column};
 ghost use Rattle.column_machines.specs.declared.evaluation.WordChange.{WordChange};
 ghost use Rattle.column_machines.specs.Noting.{differs_in};
-ghost use Rattle.part_lists.specs.Listing.{listed_at};
 ghost use Rattle.column_machines.specs.Running.{AreWritten, ReadsAny};
 
 use crate::evaluation::{WordChange, differing};
 use part_lists::{Agenda, mark_all};
+use unit_step::Machine;
 
 // The used columns in which some of these changes changes its node.
 pub(crate) fn changed_columns(used: u64, changes: &[WordChange], hi: &[u64], lo: &[u64]) -> u64
@@ -29,21 +29,21 @@ pub(crate) fn changed_columns(used: u64, changes: &[WordChange], hi: &[u64], lo:
 // Writes the changes into the words, and marks the parts that read a node that changes.
 pub(crate) fn take_over(
     changes: &[WordChange],
-    readers: &[Vec<usize>],
+    machine: &Machine,
     hi: &mut [u64],
     lo: &mut [u64],
     agenda: &mut Agenda,
 )
     requires words { length lo.old ≡ length hi.old }
     requires inside { All (λ change. change.node < length hi.old) changes.now }
-    requires readers { length readers.now ≡ length hi.old }
-    requires parts { (node k : ℕ) → Contains (listed_at readers.now node) k → k < length agenda.old }
+    requires nodes { length hi.old ≡ length machine.now.state }
+    requires counted { length agenda.old ≡ length machine.now.parts }
     ensures written { AreWritten changes.now hi.old lo.old hi.new lo.new }
-    ensures marks { MarksAll (ReadsAny readers.now changes.now) agenda.old agenda.new }
+    ensures marks { MarksAll (ReadsAny machine.now.parts changes.now) agenda.old agenda.new }
 {
     for change in changes {
         hi[change.node] = change.hi;
         lo[change.node] = change.lo;
-        mark_all(&readers[change.node], agenda);
+        mark_all(machine.readers(change.node), agenda);
     }
 }

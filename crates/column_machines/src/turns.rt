@@ -9,10 +9,12 @@ ghost use Rattle.settling.specs.Settling.{IsJoinStep, StaysOrBecomesX};
 ghost use Rattle.machine_laws.specs.Words.{FitsGraph};
 ghost use Rattle.vicinity.specs.NodeSets.{IsIn};
 ghost use Rattle.column_machines.specs.Columns.{column_states, HasStates};
+ghost use Rattle.column_machines.specs.Running.{AreColumns};
 ghost use Rattle.column_machines.specs.Turns.{HaveRun, IsLimit, IsLoaded, IsTurnMachine, MovesBy, RunsOne, WritesAt, words_of};
 
 use crate::bits::{state_in, with_bit};
 use crate::making::used_columns;
+use crate::rails::Rails;
 use crate::turning::Turning;
 use crate::uneven::{note, put_each, put_uneven, sift};
 use settling::{Recall, Settled, settle};
@@ -105,6 +107,24 @@ impl TurnMachine {
         ensures { result.now ≡ self.now.lo }
     {
         &self.lo
+    }
+
+    // Both rails of each node's states, for what goes on without the machine.
+    pub(crate) fn into_rails(self) -> Rails
+        ensures highs { result.hi.items ≡ self.hi }
+        ensures lows { result.lo.items ≡ self.lo }
+        ensures columns_are { AreColumns self.columns result.hi.items result.lo.items }
+    {
+        let TurnMachine {
+            columns: _columns,
+            used: _used,
+            machine: _machine,
+            hi,
+            lo,
+            uneven: _uneven,
+            spare: _spare,
+        } = self;
+        Rails { hi, lo }
     }
 
     // Gives a node these words; all other nodes stay. It takes no memory.

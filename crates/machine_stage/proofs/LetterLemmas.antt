@@ -1,6 +1,6 @@
 -- The letter of the one column is the first; and what is written over the first count is the count.
 use Rattle.std.proofs.Common.{◌≡◌, ℕ, ◌<◌, Bool, true, false, List, [], ◌∷◌, length, refl, sym, ap, ◌∙◌, arith}
-use Rattle.std.specs.Prelude.{◌==◌, slice_set, if◌then◌else◌}
+use Rattle.std.specs.Prelude.{◌==◌, slice_index_or, slice_set, if◌then◌else◌}
 use Rattle.ternary.specs.declared.tern.Tern.{Tern}
 use Rattle.switch_paths.specs.Graphs.{GraphData}
 use Rattle.switch_paths.specs.Switching.{state_at}
@@ -30,3 +30,8 @@ pub rests_first : (g : GraphData) (limit : ℕ) (counts : List Settled) (count :
     MovesBy (λ before after. TakesPhase g limit before after count.steps count.joined) old new → RestsWith g limit (slice_set counts 0 count) old new
 rests_first g limit [] count old new one moves = absurd (omega (arith, one))
 rests_first g limit (first ∷ counts) count old new one moves = moves
+
+-- stands there
+pub first_count : (counts : List Settled) (count past : Settled) → length counts ≡ 1 → slice_index_or (slice_set counts 0 count) 0 past ≡ count
+first_count [] count past one = absurd (omega (arith, one))
+first_count (first ∷ counts) count past one = refl

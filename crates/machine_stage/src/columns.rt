@@ -4,13 +4,13 @@ use crate::stage::MachineStage;
 use analysis_cache::{Analyst, Kept};
 use channel_groups::Change;
 use circuit_texts::BuildFault;
-use column_stage::Stage;
-use settling::{Blind, Settled};
+use column_stage::{Columns, Stage};
+use settling::{Onlooker, Settled};
 use std::alloc::Global;
 use switch_paths::{Graph, graphs_are_wired};
 use ternary::{NoMemory, Tern};
 
-impl Stage for MachineStage {
+impl Columns for MachineStage {
     ghost use Rattle.circuit_texts.specs.Building.{IsCutOff};
     ghost use Rattle.machine_stage.specs.Machines.{FitsIn, ServesIn, columns_on, last_in, states_in};
     ghost use Rattle.machine_stage.specs.Stages.{DidAct};
@@ -30,20 +30,6 @@ impl Stage for MachineStage {
     ghost cuts = { λ large g _. IsCutOff large g };
 
     ghost did = { DidAct };
-
-    fn columns(&self) -> u32 {
-        1
-    }
-
-    fn state(&self, node: usize, _column: u32) -> Tern {
-        self.states()[node]
-    }
-
-    fn place(&mut self, graph: &Graph, node: usize, letters: &[Tern]) {
-        self.is_the_machines();
-        self.set_node(graph, node, letters[0]);
-        self.is_the_machines();
-    }
 
     fn reserve(&mut self) -> Result<(), NoMemory> {
         self.take_room()
@@ -65,15 +51,43 @@ impl Stage for MachineStage {
         self.make(alloc, graph, large, kept, analyst)
     }
 
-    fn step(&mut self, graph: &Graph) {
-        self.step_machine(graph, &mut Blind {});
-    }
-
-    fn settle(&mut self, graph: &Graph, limit: u64, counts: &mut [Settled]) {
-        counts[0] = self.settle_machine(graph, limit, &mut Blind {});
-    }
-
     fn use_last(&self, kept: &mut Kept) {
         self.put_last(kept);
+    }
+}
+
+impl Stage for MachineStage {
+    ghost Shows = { Unit {0} };
+
+    fn shown(&self) -> Option<&[Tern]> {
+        Some(self.states())
+    }
+
+    fn columns(&self) -> u32 {
+        1
+    }
+
+    fn state(&self, node: usize, _column: u32) -> Tern {
+        self.states()[node]
+    }
+
+    fn place(&mut self, graph: &Graph, node: usize, letters: &[Tern]) {
+        self.is_the_machines();
+        self.set_node(graph, node, letters[0]);
+        self.is_the_machines();
+    }
+
+    fn step<O: Onlooker>(&mut self, graph: &Graph, onlooker: &mut O) {
+        self.step_machine(graph, onlooker);
+    }
+
+    fn settle<O: Onlooker>(
+        &mut self,
+        graph: &Graph,
+        limit: u64,
+        counts: &mut [Settled],
+        onlooker: &mut O,
+    ) {
+        counts[0] = self.settle_machine(graph, limit, onlooker);
     }
 }

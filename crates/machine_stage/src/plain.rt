@@ -3,7 +3,6 @@
 use crate::stage::MachineStage;
 use channel_groups::Groups;
 use column_stage::PlainStage;
-use settling::{Onlooker, Settled};
 use switch_paths::Graph;
 use ternary::Tern;
 
@@ -16,16 +15,12 @@ impl PlainStage for MachineStage {
         MachineStage::start(state)
     }
 
+    fn again(self, state: Vec<Tern>) -> MachineStage {
+        MachineStage::start(state)
+    }
+
     fn column(&self) -> &[Tern] {
         self.states()
-    }
-
-    fn step_seen<O: Onlooker>(&mut self, graph: &Graph, onlooker: &mut O) {
-        self.step_machine(graph, onlooker);
-    }
-
-    fn settle_seen<O: Onlooker>(&mut self, graph: &Graph, limit: u64, onlooker: &mut O) -> Settled {
-        self.settle_machine(graph, limit, onlooker)
     }
 
     fn groups(&self, _graph: &Graph) -> usize {
@@ -41,6 +36,8 @@ impl PlainStage for MachineStage {
     }
 
     ghost one = { λ stage. refl };
+
+    ghost in_sight = { tt };
 
     ghost cuts_off = { λ large g bound old new before after cut. cut };
 }

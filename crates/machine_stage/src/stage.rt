@@ -177,7 +177,7 @@ impl MachineStage {
         ensures grown { OnErr result (IsGrown kept.old kept.new) }
     {
         match &mut self.held {
-            Held::Built(machine) => machine.finish(graph, large, kept, analyst),
+            Held::Built(machine) => machine.finish(graph, large, Codes::Short, kept, analyst),
             Held::Still(state) => {
                 let (machine, fresh) = Machine::build(
                     alloc,

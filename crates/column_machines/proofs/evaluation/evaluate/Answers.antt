@@ -1,52 +1,44 @@
--- A part with code fits the room, and what its code gives is noted.
-use Rattle.std.proofs.Common.{◌≡◌, ◌<◌, ◌∙◌, ℕ, List, length, map, take, sym, ap, subst, Vec, Global, arith}
-use Rattle.std.proofs.lemmas.List.{length-take-le}
-use Rattle.ternary.specs.declared.tern.Tern.{Tern}
-use Rattle.switch_paths.specs.Switching.{state_at}
-use Rattle.straight_code.specs.Code.{code_value}
-use Rattle.word_columns.specs.Columns.{AreRailsIn}
+-- The part is run, and noted.
+use Rattle.std.proofs.Common.{◌≡◌, ◌<◌, ◌≤◌, List, All, length, vec_len, sym, ap, subst, ◌∙◌, Vec, Global, arith}
+use Rattle.machine_parts.specs.declared.part.MachinePart.{MachinePart}
+use Rattle.machine_parts.specs.Parts.{Stands}
+use Rattle.machine_laws.specs.Machines.{MachineData}
+use Rattle.machine_laws.specs.Columns.{AreSeated}
 use Rattle.column_machines.specs.declared.evaluation.WordChange.{WordChange}
-use Rattle.column_machines.specs.Noting.{Notes}
-use Rattle.column_machines.proofs.EvaluationLemmas.{Reports-from_Notes}
+use Rattle.column_machines.specs.Evaluating.{Rooms, rooms, Reports}
 use Rattle.column_machines.proofs.evaluation.evaluate.Goals as goal
 
-pub run_part-requires-clause-nodes : goal.run_part-requires-clause-nodes
-run_part-requires-clause-nodes c =
-    rw (c.deref-in-Some.ensures.value, c.deref.ensures) (c.requires.seated.seated.coded c.in-Some.code c.in-Some.is).inputs
+pub note_part-requires : goal.note_part-requires
+note_part-requires c =
+    let m = c.args.machine.now in
+    let parts : c.all_parts.result.now ≡ c.args.machine.now.parts = c.all_parts.ensures.value ∙ ap (λ (m : MachineData). m.parts) c.run_part.ensures.machine in
+    let room = ap (λ (room : Rooms). room.outs) c.run_part.ensures.rooms in
+    let changes = ap (λ (room : Rooms). room.changes) c.run_part.ensures.rooms in
+    let seated : AreSeated (length c.args.hi.now) m.parts =
+    subst (λ n. AreSeated n m.parts) (sym c.requires.nodes)
+    (subst (λ (machine : MachineData). AreSeated (length machine.state) machine.parts) c.run_part.ensures.machine c.all_parts.ensures.seated) in
+    record {
+      inside = subst (λ (list : List MachinePart). c.args.k < length list) (sym parts) c.requires.inside;
+      words = c.requires.words;
+      seated = subst (AreSeated (length c.args.hi.now)) (sym parts) seated;
+      outs = subst (λ n. All (λ part. part.members ≤ n) c.all_parts.result.now) (sym room)
+          (subst (All (λ (part : MachinePart). part.members ≤ (rooms c.args.workspace.now).outs)) (sym parts) c.requires.outs);
+      rails = c.run_part.ensures.rails;
+      room = λ part stands.
+          omega (arith, c.requires.room part (subst (λ (list : List MachinePart). Stands list c.args.k part) parts stands), changes, ap (λ (list : Vec WordChange Global). vec_len list) c.run_part.ensures.changes);
+      gives = λ part stands. c.run_part.ensures.gives part (subst (λ (list : List MachinePart). Stands list c.args.k part) parts stands);
+    }
 
-pub run_part-requires-clause-values : goal.run_part-requires-clause-values
-run_part-requires-clause-values c = rw c.deref.ensures (c.requires.seated.value_room c.in-Some.code c.in-Some.is)
+pub returns-clause-changes : goal.returns-clause-changes
+returns-clause-changes c =
+    let parts : c.all_parts.result.now ≡ c.args.machine.now.parts = c.all_parts.ensures.value ∙ ap (λ (m : MachineData). m.parts) c.run_part.ensures.machine in
+    subst (λ (old : List WordChange). Reports c.args.joining c.args.machine.now.parts c.args.used c.args.hi.now c.args.lo.now c.args.k old c.note_part.new.workspace.changes.items)
+    (ap (λ (list : Vec WordChange Global). list.items) c.run_part.ensures.changes)
+    (subst (λ (list : List MachinePart). Reports c.args.joining list c.args.used c.args.hi.now c.args.lo.now c.args.k c.run_part.new.workspace.changes.items c.note_part.new.workspace.changes.items)
+    parts c.note_part.ensures.changes)
 
-pub returns-in-Some-clause-changes : goal.returns-in-Some-clause-changes
-returns-in-Some-clause-changes c = λ parts k stands.
-    let part = c.args.part.now in
-    let code = c.in-Some.code in
-    let seat = c.requires.seated.seated in
-    let hi = c.args.hi.now in
-    let lo = c.args.lo.now in
-    let highs = c.run_part.new.workspace.out_hi.items in
-    let lows = c.run_part.new.workspace.out_lo.items in
-    let ones = take part.members c.deref-in-Some-2.result.now in
-    let others = take part.members c.deref-in-Some-3.result.now in
-    let high_are = c.deref-in-Some-2.ensures.value in
-    let low_are = c.deref-in-Some-3.ensures.value in
-    let values : List Tern → List Tern = λ state. code_value code.value (map (state_at state) part.map.items) in
-    let given : (column : ℕ) (state : List Tern) → column < 64 → AreRailsIn column hi lo state →
-    AreRailsIn column ones others (code_value code.value (map (state_at state) part.map.items)) = λ column state inside has.
-    let value : AreRailsIn column (take (length code.value.outputs) highs) (take (length code.value.outputs) lows) (code_value code.value (map (state_at state) part.map.items)) =
-    rw (c.deref.ensures, c.deref-in-Some.ensures.value) at c.run_part.ensures.value column state inside has in
-    subst (λ list. AreRailsIn column (take part.members list) others (values state)) (sym high_are)
-    (subst (λ list. AreRailsIn column (take part.members highs) (take part.members list) (values state)) (sym low_are)
-    (subst (λ n. AreRailsIn column (take n highs) (take n lows) (values state)) (seat.coded code c.in-Some.is).outputs value)) in
-    let room : length highs ≡ length c.args.workspace.now.out_hi.items = ap (λ room. room.outs) c.run_part.ensures.rooms in
-    let high_count : length ones ≡ part.members =
-    length-take-le part.members c.deref-in-Some-2.result.now (omega (arith, c.requires.seated.out_room, room, ap length high_are)) in
-    let low_count : length others ≡ part.members =
-    length-take-le part.members c.deref-in-Some-3.result.now (omega (arith, c.requires.seated.out_room, room, ap length low_are, c.run_part.ensures.rails)) in
-    let before = ap (λ (list : Vec WordChange Global). list.items) c.run_part.ensures.changes in
-    let notes : Notes c.args.joining c.args.used part.map.items hi lo ones others (length ones) c.args.workspace.now.changes.items c.note_all.new.changes.items =
-    subst (λ old. Notes c.args.joining c.args.used part.map.items hi lo ones others (length ones) old c.note_all.new.changes.items) before
-    (subst (λ nodes. Notes c.args.joining c.args.used nodes hi lo ones others (length ones) c.run_part.new.workspace.changes.items c.note_all.new.changes.items)
-    c.deref-in-Some-4.ensures.value c.note_all.ensures.changes) in
-    Reports-from_Notes c.args.joining parts c.args.used hi lo c.requires.words k part code stands c.in-Some.is seat.members
-    seat.below ones others high_count (low_count ∙ sym high_count) given c.args.workspace.now.changes.items c.note_all.new.changes.items notes
+pub returns-clause-few : goal.returns-clause-few
+returns-clause-few c = λ part stands.
+    let parts : c.all_parts.result.now ≡ c.args.machine.now.parts = c.all_parts.ensures.value ∙ ap (λ (m : MachineData). m.parts) c.run_part.ensures.machine in
+    let there : Stands c.all_parts.result.now c.args.k part = subst (λ (list : List MachinePart). Stands list c.args.k part) (sym parts) stands in
+    omega (arith, c.note_part.ensures.few part there, ap (λ (list : Vec WordChange Global). vec_len list) c.run_part.ensures.changes)

@@ -7,11 +7,12 @@ use Rattle.column_machines.proofs.evaluation.evaluate_all.Given as goal
 
 abbrev pub invariant-loop-k : goal.invariant-loop-k
 invariant-loop-k l = record {
-  evaluated : Evaluated l.joining l.parts l.used l.hi l.lo l.fn.agenda l.agenda l.workspace.changes.items l.workspace.done.items;
+  evaluated : Evaluated l.joining l.fn.machine.parts l.used l.hi l.lo l.fn.agenda l.agenda l.workspace.changes.items l.workspace.done.items;
+  machine : l.machine ≡ l.fn.machine;
   count : length l.agenda ≡ length l.fn.agenda;
   rooms : rooms l.workspace ≡ rooms l.fn.workspace;
   rails : IsEven l.workspace;
-  changes_room : vec_len l.workspace.changes + marked_sum members_of l.parts l.agenda ≤ vec_capacity l.workspace.changes;
+  changes_room : vec_len l.workspace.changes + marked_sum members_of l.fn.machine.parts l.agenda ≤ vec_capacity l.workspace.changes;
   done_room : vec_len l.workspace.done + count_marked l.agenda ≤ vec_capacity l.workspace.done;
 }
 

@@ -1,12 +1,9 @@
 -- One change more is taken over.
-use Rattle.std.proofs.Common.{◌<◌, inl, get_or, refl, ◌∙◌, arith}
+use Rattle.std.proofs.Common.{◌<◌, inl, get_or, refl, arith}
 use Rattle.std.specs.Prelude.{length}
 use Rattle.std.proofs.lemmas.List.{get_or_default}
-use Rattle.machine_parts.proofs.MarkLemmas.{MarksAll-reached}
 use Rattle.column_machines.specs.declared.evaluation.WordChange.{WordChange}
-use Rattle.part_lists.specs.Listing.{listed_at}
-use Rattle.part_lists.proofs.ListLemmas.{list_read}
-use Rattle.column_machines.proofs.TakingLemmas.{AreWritten-none, AreWritten-more}
+use Rattle.column_machines.proofs.TakingLemmas.{AreWritten-none, AreWritten-more, MarksAll-read}
 use Rattle.column_machines.proofs.taking.take_over.Goals as goal
 
 first : WordChange
@@ -23,13 +20,14 @@ loop-change-init c = record {
   };
 }
 
-pub mark_all-requires : goal.mark_all-requires
+pub readers-requires : goal.readers-requires
 unfolding first
+readers-requires c = omega (arith, c.requires.inside _ first c.loop-change-test.true, c.requires.nodes)
+
+pub mark_all-requires : goal.mark_all-requires
 mark_all-requires c = λ k there.
-    let change = get_or c.args.changes.now c.loop-change.change-index first in
-    let inside : change.node < length c.args.readers.now = omega (arith, c.requires.inside _ first c.loop-change-test.true, c.requires.readers) in
-    let lists = c.deref.ensures.value ∙ list_read c.args.readers.now change.node c.index-readers-change.result inside c.index-readers-change.is in
-    omega (arith, c.requires.parts change.node k (rw lists at there), c.loop-change.invariant.marks.count)
+    let reads = (c.readers.ensures k).0 there in
+    omega (arith, reads.stands.inside, c.requires.counted, c.loop-change.invariant.marks.count)
 
 pub loop-change-preserved : goal.loop-change-preserved
 unfolding first
@@ -38,13 +36,11 @@ loop-change-preserved c =
     let change = get_or c.args.changes.now i first in
     let is = get_or_default c.args.changes.now i first change c.loop-change-test.true in
     let inside = c.requires.inside i first c.loop-change-test.true in
-    let within : change.node < length c.args.readers.now = omega (arith, inside, c.requires.readers) in
     let high : change.node < length c.loop-change.hi = omega (arith, inside, c.loop-change.auto.hi) in
     let low : change.node < length c.loop-change.lo = omega (arith, inside, c.loop-change.auto.lo, c.requires.words) in
-    let lists = c.deref.ensures.value ∙ list_read c.args.readers.now change.node c.index-readers-change.result within c.index-readers-change.is in
     record {
       written = AreWritten-more c.args.changes.now i change c.args.hi.now c.args.lo.now c.loop-change.hi c.loop-change.lo c.loop-change-test.true is high low
           c.loop-change.invariant.written;
-      marks = MarksAll-reached (λ (change : WordChange). listed_at c.args.readers.now change.node) c.args.changes.now i change c.deref.result.now c.args.agenda.now
-          c.loop-change.agenda c.mark_all.new.agenda c.loop-change-test.true is lists c.loop-change.invariant.marks c.mark_all.ensures;
+      marks = MarksAll-read c.args.machine.now.parts c.args.changes.now i change c.readers.result.now c.args.agenda.now c.loop-change.agenda c.mark_all.new.agenda
+          c.loop-change-test.true is c.readers.ensures c.loop-change.invariant.marks c.mark_all.ensures;
     }

@@ -7,5 +7,5 @@ use Rattle.column_machines.proofs.taking.take_over.Given as goal
 abbrev pub invariant-loop-change : goal.invariant-loop-change
 invariant-loop-change l = record {
   written : AreWritten (take l.change-index l.changes) l.fn.hi l.fn.lo l.hi l.lo;
-  marks : MarksAll (ReadsAny l.readers (take l.change-index l.changes)) l.fn.agenda l.agenda;
+  marks : MarksAll (ReadsAny l.machine.parts (take l.change-index l.changes)) l.fn.agenda l.agenda;
 }

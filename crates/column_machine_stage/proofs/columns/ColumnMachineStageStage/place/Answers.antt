@@ -3,7 +3,7 @@ use Rattle.std.proofs.Common.{ℕ, ◌≡◌, ◌<◌, ◌⊎◌, length, sym, s
 use Rattle.column_machine_stage.specs.Stages.{HasValue}
 use Rattle.column_stage.specs.Columns.{letter_in}
 use Rattle.column_machine_stage.proofs.MovingLemmas.{letters_placed, letters_rail}
-use Rattle.column_machine_stage.proofs.ServingLemmas.{fits_still, serves_put}
+use Rattle.column_machine_stage.proofs.ServingLemmas.{fits_still, last_put, serves_put}
 use Rattle.column_machine_stage.proofs.columns.ColumnMachineStageStage.place.Goals.{After-value_words-words}
 use Rattle.column_machine_stage.proofs.columns.ColumnMachineStageStage.place.Goals as goal
 
@@ -30,7 +30,7 @@ returns-clause-states c =
 
 pub returns-clause-serves : goal.returns-clause-serves
 returns-clause-serves c = λ kept serves.
-    serves_put c.args.graph.now kept c.args.self.now c.set_node.new.self c.set_node.ensures.machine c.set_node.ensures.large c.set_node.ensures.stale serves
+    serves_put c.args.graph.now kept c.args.self.now c.set_node.new.self c.set_node.ensures.machine c.set_node.ensures.large serves
 
 pub returns-clause-fits : goal.returns-clause-fits
 returns-clause-fits c = λ fits.
@@ -43,3 +43,6 @@ returns-clause-did c = record {
       c.args.self.now.hi c.args.self.now.lo c.set_node.new.self.hi c.set_node.new.self.lo c.set_node.ensures.hi c.set_node.ensures.lo;
   machine = c.set_node.ensures.machine;
 }
+
+pub returns-clause-last : goal.returns-clause-last
+returns-clause-last c = last_put c.args.graph.now c.args.self.now.machine c.set_node.new.self.machine c.set_node.ensures.machine

@@ -35,3 +35,20 @@ invariant_of-self c =
         same = w.place.ensures.columns ∙ rw w.in-Built.is at c.self.invariant.same;
       })
     ]
+
+pub returns-clause-machine : goal.returns-clause-machine
+returns-clause-machine c =
+    elim c.match-self.branch [
+      | in-Still w ↦ rw (w.self-inside-is, ← c.self.view_is, w.in-Still.is) refl
+      | in-Built w ↦ rw (w.self-inside-is, ← c.self.view_is, w.in-Built.is) (
+        w.place.new.self,
+        refl,
+        record {
+          covers = w.place.ensures.covers;
+          fits = w.place.ensures.fits;
+          known = w.place.ensures.known c.args.graph.now;
+          last = w.place.ensures.last;
+          kind = w.place.ensures.kind;
+        },
+      )
+    ]

@@ -24,4 +24,4 @@ returns-clause-states c = λ column inside.
 
 -- without a machine it serves any graph
 pub returns-clause-serves : goal.returns-clause-serves
-returns-clause-serves c = λ graph kept fresh. tt
+returns-clause-serves c = λ graph kept. tt

@@ -19,6 +19,7 @@ returns-clause-moves c =
             columns = refl;
             each = λ column inside. rw w.in-Built.is (w.step.ensures.step fits column (subst (λ (n : ℕ). column < n) (sym columns) inside));
             fits = record { machine = w.step.new.self; there = refl; fits = w.step.ensures.fits fits };
+            kind = rw w.in-Built.is w.step.ensures.kind;
           })
       | in_default w ↦
           let none : None ≡ Some c.requires.machine =

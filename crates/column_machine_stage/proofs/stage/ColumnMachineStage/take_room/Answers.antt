@@ -1,56 +1,45 @@
-use Rattle.std.proofs.Common.{None, refl, ap₂, ◌∙◌, arith}
+-- The words stay, and what machine there is, with more room.
+use Rattle.std.proofs.Common.{◌≡◌, Some, ap, ap₂, sym, subst, ◌∙◌}
 use Rattle.column_machines.specs.Columns.{column_states}
-use Rattle.column_machine_stage.specs.declared.stage.Held.TheVariants.{Still}
-use Rattle.column_machine_stage.specs.Stages.{StageData, SameStates, spare_held}
-use Rattle.column_machine_stage.proofs.ColumnLemmas.{AreColumns-states, column_is}
+use Rattle.column_machine_stage.specs.Stages.{StageData, hi_held, last_held, lo_held, machine_held}
+use Rattle.std.specs.Prelude.{IfSome}
+use Rattle.column_machine_stage.proofs.ServingLemmas.{columns_reserved, words_reserved, last_reserved, reserves_from}
 use Rattle.column_machine_stage.proofs.stage.ColumnMachineStage.take_room.Goals as goal
-use Rattle.column_machine_stage.proofs.stage.ColumnMachineStage.take_room.Goals.{in-Still-1, in-Built+in-InTurn-1, in-Built+in-Together-1}
 
-pub invariant_of-self-in_ok-rails-in-Built-2 : goal.invariant_of-self-in_ok-rails-in-Built-2
-invariant_of-self-in_ok-rails-in-Built-2 c =
-    let rails = c.in_ok-rails-in-Built.rails in
+pub invariant_of-self : goal.invariant_of-self
+invariant_of-self c =
+    let i = c.self.inside in
+    let room = c.reserve_in.ensures in
     record {
       some = c.self.invariant.some;
       few = c.self.invariant.few;
-      columns_are = AreColumns-states c.self.inside.columns rails.hi.items rails.lo.items (λ column. column_states column c.hi.result.now c.lo.result.now) c.self.invariant.some
-          (λ column inside. c.in_ok-rails-in-Built.ensures.states column (omega (arith, inside, c.self.invariant.few)));
-      same = tt;
+      columns_are = rw (room.hi, room.lo)
+          (columns_reserved i.columns (machine_held i.held) (machine_held c.reserve_in.new.held) (hi_held i.held) (lo_held i.held) room.machine c.self.invariant.columns_are);
+      same = words_reserved i.columns (machine_held i.held) (machine_held c.reserve_in.new.held) room.machine c.self.invariant.same;
     }
 
-pub invariant_of-self-in_ok-rails-in-Built-3 : goal.invariant_of-self-in_ok-rails-in-Built-3
-invariant_of-self-in_ok-rails-in-Built-3 c =
-    let rails = c.in_ok-rails-in-Built.rails in
+pub returns-clause-same : goal.returns-clause-same
+returns-clause-same c =
+    let left = c.leave_turns.ensures in
+    let view = c.self.view_is in
+    let room = c.reserve_in.ensures in
     record {
-      some = c.self.invariant.some;
-      few = c.self.invariant.few;
-      columns_are = AreColumns-states c.self.inside.columns rails.hi.items rails.lo.items (λ column. column_states column c.hi.result.now c.lo.result.now) c.self.invariant.some
-          (λ column inside. c.in_ok-rails-in-Built.ensures.states column (omega (arith, inside, c.self.invariant.few)));
-      same = tt;
-    }
-
-pub returns-in_ok-rails-in-Built-clause-same : goal.returns-in_ok-rails-in-Built-clause-same
-returns-in_ok-rails-in-Built-clause-same c =
-    let rails = c.in_ok-rails-in-Built.rails in
-    let stage : StageData = record {
-      columns = c.self.inside.columns;
-      hi = rails.hi.items;
-      lo = rails.lo.items;
-      machine = None;
-      large = c.self.inside.large;
-      stale = c.self.inside.stale;
-      spare = spare_held (Still rails);
-    } in
-    let same : SameStates c.args.self.now stage =
-    rw (← c.self.view_is) (record {
-      columns = refl;
+      columns = ap (λ (s : StageData). s.columns) view ∙ left.columns;
       each = λ column inside.
-          rw c.in-Built.is
-          (column_is column rails.hi.items rails.lo.items (column_states column c.hi.result.now c.lo.result.now)
-          (c.in_ok-rails-in-Built.ensures.states column (omega (arith, inside, c.self.invariant.few)))
-          ∙ ap₂ (column_states column) c.hi.ensures c.lo.ensures);
-    }) in
-    elim c.match-self-2.branch [
-      | in-Still-1 w ↦ rw w.self-is same
-      | in-Built+in-InTurn-1 w ↦ rw w.self-is same
-      | in-Built+in-Together-1 w ↦ rw w.self-is same
-    ]
+          ap₂ (column_states column) (room.hi ∙ ap (λ (s : StageData). s.hi) view ∙ left.hi) (room.lo ∙ ap (λ (s : StageData). s.lo) view ∙ left.lo);
+    }
+
+pub returns-clause-machine : goal.returns-clause-machine
+returns-clause-machine c =
+    let i = c.self.inside in
+    reserves_from c.args.self.now.machine (machine_held i.held) (machine_held c.reserve_in.new.held)
+    (subst (λ (s : StageData). IfSome s.machine (λ machine. c.args.self.now.machine ≡ Some machine)) (sym c.self.view_is) c.leave_turns.ensures.machine)
+    c.reserve_in.ensures.machine
+
+pub returns-clause-last : goal.returns-clause-last
+returns-clause-last c =
+    last_reserved (machine_held c.self.inside.held) (machine_held c.reserve_in.new.held) c.reserve_in.ensures.machine
+    ∙ ap (λ (s : StageData). last_held s.machine) c.self.view_is ∙ c.leave_turns.ensures.last
+
+pub returns-clause-large : goal.returns-clause-large
+returns-clause-large c = ap (λ (s : StageData). s.large) c.self.view_is ∙ c.leave_turns.ensures.large
