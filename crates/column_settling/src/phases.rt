@@ -1,7 +1,8 @@
 //! Settling of all columns in one run.
-ghost use Rattle.std.specs.Prelude.{◌≡◌, ℕ, ◌<◌, ◌≤◌, ◌^◌, ◌+◌, true, false, IfOk};
+ghost use Rattle.std.specs.Prelude.{◌≡◌, ℕ, ◌<◌, ◌≤◌, ◌^◌, ◌+◌, true, false, IfErr, IfOk};
 ghost use Rattle.switch_paths.specs.Step.{IsStep};
 ghost use Rattle.settling.specs.declared.settling.TheConstants.{MOST_LIMIT};
+ghost use Rattle.column_settling.specs.Reaching.{Reaches};
 ghost use Rattle.column_settling.specs.Together.{StepTogether, JoinTogether, SettleTogether};
 
 use crate::stepping::ColumnStepper;
@@ -12,7 +13,8 @@ use switch_paths::Graph;
 /// and after that joining steps while some column changes.
 ///
 /// Each column settles as it would alone. What is told is the greatest count of a column, and whether that column
-/// joined: no column has more steps, and if it didn't join, none did. If the stepper runs out, it tells why.
+/// joined: no column has more steps, and if it didn't join, none did. If the stepper runs out, it tells why, which is so of
+/// it as it is then.
 ///
 /// In the manner of MOSSIM II: Bryant, "A Switch-Level Model and Simulator for MOS Digital Systems", 1984.
 pub fn settle_columns<M: ColumnStepper>(
@@ -26,6 +28,8 @@ pub fn settle_columns<M: ColumnStepper>(
     ensures settles { IfOk result (λ told. SettleTogether graph.now (M.columns m.old) (M.state m.old) limit (M.state m.new) told) }
     ensures fits { M.fits m.new graph.now }
     ensures columns { M.columns m.new ≡ M.columns m.old }
+    ensures keeps { Reaches M.keeps m.old m.new }
+    ensures spent { IfErr result (M.spent m.new) }
 {
     let (steps, rest) = step_columns(m, graph, limit)?;
     if rest {
@@ -56,6 +60,8 @@ fn step_columns<M: ColumnStepper>(
     ensures limited { IfOk result (λ taken. taken.1 ≡ false → taken.0 ≡ limit) }
     ensures fits { M.fits m.old graph.now → M.fits m.new graph.now }
     ensures columns { M.columns m.new ≡ M.columns m.old }
+    ensures keeps { Reaches M.keeps m.old m.new }
+    ensures spent { IfErr result (M.spent m.new) }
 {
     for taken in 0..limit {
         let moved = m.step(graph)?;
@@ -73,6 +79,8 @@ fn join_columns<M: ColumnStepper>(m: &mut M, graph: &Graph) -> Result<u64, M::Fa
     ensures few { IfOk result (λ taken. taken < 2 ^ 63) }
     ensures fits { M.fits m.new graph.now }
     ensures columns { M.columns m.new ≡ M.columns m.old }
+    ensures keeps { Reaches M.keeps m.old m.new }
+    ensures spent { IfErr result (M.spent m.new) }
 {
     let mut taken = 0;
     'joining: loop {

@@ -11,7 +11,8 @@
 //! write_outputs(&mut truths, &code, &values, ..)?       those of all outputs
 //! ```
 //!
-//! A maker may run out, and then tells why: it has all truths that it had. For the proofs of crates above:
+//! A maker may run out, and then tells why: it has all truths that it had, and what the fault tells is so of it as it is
+//! then (`spent`). For the proofs of crates above:
 //! `ColumnLemmas` (what holds of truths in a column).
 #![tactic(auto)]
 

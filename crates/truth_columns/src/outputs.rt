@@ -1,5 +1,5 @@
 //! The outputs of code that ran over truths.
-ghost use Rattle.std.specs.Prelude.{◌≡◌, ℕ, ◌+◌, ◌*◌, ◌<◌, ◌≤◌, List, [], length, map, take, All, OnOk};
+ghost use Rattle.std.specs.Prelude.{◌≡◌, ℕ, ◌+◌, ◌*◌, ◌<◌, ◌≤◌, List, [], length, map, take, All, IfErr, OnOk};
 ghost use Rattle.ternary.specs.declared.tern.Tern.{Tern};
 ghost use Rattle.ternary.specs.Tern.{may_one, may_zero};
 ghost use Rattle.switch_paths.specs.Switching.{state_at};
@@ -26,6 +26,8 @@ pub fn write_outputs<T: Truths>(
     requires high_has { All (T.has truths.old) out_hi.old }
     requires low_has { All (T.has truths.old) out_lo.old }
     ensures kept { AreKept (T.columns truths.old) (T.has truths.old) (T.holds truths.old) (T.columns truths.new) (T.has truths.new) (T.holds truths.new) }
+    ensures bound { T.bound truths.new ≡ T.bound truths.old }
+    ensures spent { IfErr result (T.spent truths.new) }
     ensures high_has { All (T.has truths.new) out_hi.new }
     ensures low_has { All (T.has truths.new) out_lo.new }
     ensures written { OnOk result ((column : ℕ) (input : List Tern) → column < T.columns truths.old → length input ≡ code.now.inputs

@@ -1,5 +1,5 @@
 //! A run of straight-line code over truths.
-ghost use Rattle.std.specs.Prelude.{◌≡◌, ℕ, ◌+◌, ◌*◌, ◌<◌, ◌≤◌, List, [], length, map, take, All, IfOk, OnOk};
+ghost use Rattle.std.specs.Prelude.{◌≡◌, ℕ, ◌+◌, ◌*◌, ◌<◌, ◌≤◌, List, [], length, map, take, All, IfErr, IfOk, OnOk};
 ghost use Rattle.ternary.specs.declared.tern.Tern.{Tern};
 ghost use Rattle.ternary.specs.Tern.{may_one, may_zero};
 ghost use Rattle.switch_paths.specs.Switching.{state_at};
@@ -20,6 +20,8 @@ pub fn run_steps<T: Truths>(
     requires room { 2 + 2 * code.now.inputs + length code.now.instructions ≤ length values.old }
     requires has { All (T.has truths.old) values.old }
     ensures kept { AreKept (T.columns truths.old) (T.has truths.old) (T.holds truths.old) (T.columns truths.new) (T.has truths.new) (T.holds truths.new) }
+    ensures bound { T.bound truths.new ≡ T.bound truths.old }
+    ensures spent { IfErr result (T.spent truths.new) }
     ensures has { All (T.has truths.new) values.new }
     ensures ran { OnOk result ((column : ℕ) (input : List Tern) → column < T.columns truths.old → length input ≡ code.now.inputs
         → take (2 + 2 * code.now.inputs) (values_in (T.holds truths.old) column values.old) ≡ flat_values input []
@@ -73,6 +75,8 @@ pub fn output<T: Truths>(
     requires room { 2 + 2 * code.now.inputs + length code.now.instructions ≤ length values.now }
     requires has { All (T.has truths.old) values.now }
     ensures kept { AreKept (T.columns truths.old) (T.has truths.old) (T.holds truths.old) (T.columns truths.new) (T.has truths.new) (T.holds truths.new) }
+    ensures bound { T.bound truths.new ≡ T.bound truths.old }
+    ensures spent { IfErr result (T.spent truths.new) }
     ensures has { IfOk result (λ rails. T.has truths.new rails.0 × T.has truths.new rails.1) }
     ensures rails { IfOk result (λ rails. (column : ℕ) (input : List Tern) → column < T.columns truths.old → length input ≡ code.now.inputs
         → take (2 + 2 * code.now.inputs + length code.now.instructions) (values_in (T.holds truths.old) column values.now)
@@ -95,6 +99,8 @@ fn settle<T: Truths>(
     requires one { T.has truths.old one }
     requires zero { T.has truths.old zero }
     ensures kept { AreKept (T.columns truths.old) (T.has truths.old) (T.holds truths.old) (T.columns truths.new) (T.has truths.new) (T.holds truths.new) }
+    ensures bound { T.bound truths.new ≡ T.bound truths.old }
+    ensures spent { IfErr result (T.spent truths.new) }
     ensures has { IfOk result (λ rails. T.has truths.new rails.0 × T.has truths.new rails.1) }
     ensures rails { IfOk result (λ rails. (column : ℕ) → column < T.columns truths.old
         → (T.holds truths.new rails.0 column ≡ may_one (settled (T.holds truths.old one column) (T.holds truths.old zero column)))
@@ -117,6 +123,8 @@ fn perform_step<T: Truths>(
     requires b { step.b < length values.now }
     requires has { All (T.has truths.old) values.now }
     ensures kept { AreKept (T.columns truths.old) (T.has truths.old) (T.holds truths.old) (T.columns truths.new) (T.has truths.new) (T.holds truths.new) }
+    ensures bound { T.bound truths.new ≡ T.bound truths.old }
+    ensures spent { IfErr result (T.spent truths.new) }
     ensures has { IfOk result (T.has truths.new) }
     ensures value { IfOk result (λ made. (column : ℕ) → column < T.columns truths.old
         → T.holds truths.new made column ≡ step_value (values_in (T.holds truths.old) column values.now) step) }

@@ -1,5 +1,5 @@
 pub mod MovingLemmas
-mod PlacingLemmas
+pub mod PlacingLemmas
 mod MakingLemmas
 mod MakerLemmas
 mod GearLemmas

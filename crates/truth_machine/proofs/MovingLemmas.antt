@@ -1,5 +1,5 @@
 -- A machine over truths that moves: each column takes the graph's step and fits the graph again; and after a fault each rests.
-use Rattle.std.proofs.Common.{◌≡◌, ℕ, ◌<◌, Bool, true, false, List, length, All, Result, Ok, Err, inl, sym, ap, ap₂, subst, ◌∙◌, arith}
+use Rattle.std.proofs.Common.{◌≡◌, ℕ, ◌<◌, Bool, true, false, List, length, All, Result, Ok, Err, inl, refl, sym, ap, ap₂, subst, ◌∙◌, arith}
 use Rattle.std.specs.Prelude.{IfOk, OnErr}
 use Rattle.std.proofs.lemmas.Result.{IfOk-weaker}
 use Rattle.ternary.specs.declared.tern.Tern.{Tern}
@@ -9,13 +9,16 @@ use Rattle.switch_paths.specs.Switching.{state_at}
 use Rattle.settling.specs.Settling.{IsJoinStep, StaysOrBecomesX}
 use Rattle.machine_parts.specs.declared.part.MachinePart.{MachinePart}
 use Rattle.truth_columns.specs.Columns.{AreKept, HasColumn}
-use Rattle.truth_columns.proofs.ColumnLemmas.{values_in-kept}
+use Rattle.truth_columns.proofs.ColumnLemmas.{AreKept-same, AreKept-trans, values_in-kept}
+use Rattle.column_settling.specs.Reaching.{Reaches}
+use Rattle.column_settling.proofs.ReachingLemmas.{held_by_all}
 use Rattle.truth_parts.specs.Columns.{states_in, states_of, AreColumns, IsColumn}
 use Rattle.truth_parts.specs.Fitting.{HasFit}
 use Rattle.truth_parts.specs.Stepping.{StepsInAll}
 use Rattle.truth_parts.proofs.KeptLemmas.{HasColumn-kept}
 use Rattle.truth_parts.proofs.FittingLemmas.{plain_step, join_step, fits_again}
 use Rattle.truth_machine.specs.Machines.{TruthData, column_of, FitsInMachine}
+use Rattle.truth_machine.specs.Keeping.{KeepsTruths}
 use Rattle.truth_machine.specs.Moving.{Rests, StepsColumns}
 
 -- what holds whether there is a value or a fault
@@ -153,3 +156,25 @@ pub IsJoinStep-in_column : {A M : Type 0} → (columns : M → ℕ) (holds : M �
     IsJoinStep g (column_of holds old column) (column_of holds new column)
 IsJoinStep-in_column columns holds old new g wired moved steps fits column inside =
     join_step g wired old.parts old.marks new.marks (column_of holds old column) (column_of holds new column) (fits column inside) (steps.each column inside)
+
+-- ---- many steps
+
+-- a machine keeps its own truths, and what is kept twice is kept
+KeepsTruths-same : {A M : Type 0} → (columns : M → ℕ) (has : M → A → Type 0) (holds : M → A → ℕ → Bool) (bound : M → ℕ) (m : TruthData A M) →
+    KeepsTruths columns has holds bound m m
+KeepsTruths-same columns has holds bound m = record { kept = AreKept-same (columns m.maker) (has m.maker) (holds m.maker); bounded = refl }
+
+KeepsTruths-trans : {A M : Type 0} → (columns : M → ℕ) (has : M → A → Type 0) (holds : M → A → ℕ → Bool) (bound : M → ℕ) (first second third : TruthData A M) →
+    KeepsTruths columns has holds bound first second → KeepsTruths columns has holds bound second third → KeepsTruths columns has holds bound first third
+KeepsTruths-trans columns has holds bound first second third one two = record {
+  kept = AreKept-trans (columns first.maker) (columns second.maker) (columns third.maker) (has first.maker) (has second.maker) (has third.maker)
+      (holds first.maker) (holds second.maker) (holds third.maker) one.kept two.kept;
+  bounded = two.bounded ∙ one.bounded;
+}
+
+-- so moves each of which keeps the truths of a maker keep them all
+pub keeps_reached : {A M : Type 0} → (columns : M → ℕ) (has : M → A → Type 0) (holds : M → A → ℕ → Bool) (bound : M → ℕ) (old new : TruthData A M) →
+    Reaches (KeepsTruths columns has holds bound) old new → KeepsTruths columns has holds bound old new
+keeps_reached columns has holds bound old new reached =
+    held_by_all (KeepsTruths columns has holds bound) (KeepsTruths columns has holds bound) (KeepsTruths-same columns has holds bound)
+    (KeepsTruths-trans columns has holds bound) old new reached

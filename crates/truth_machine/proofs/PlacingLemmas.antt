@@ -50,7 +50,8 @@ module _ {A : Type 0} (holds : A → ℕ → Bool) (column node : ℕ) (high low
   s = state_with (holds high column) (holds low column)
 
   -- the column has the placed state at the node, and else its own
-  pub states-placed : states_in holds column (slice_set hi node high) (slice_set lo node low) ≡ slice_set (states_in holds column hi lo) node s
+  pub states-placed : states_in holds column (slice_set hi node high) (slice_set lo node low) ≡
+      slice_set (states_in holds column hi lo) node (state_with (holds high column) (holds low column))
   states-placed =
       ap₂ states_of (values_in-set holds column node high hi) (values_in-set holds column node low lo)
       ∙ states_of-set (values_in holds column hi) (values_in holds column lo) node (holds high column) (holds low column)

@@ -2,3 +2,4 @@ pub mod Machines
 pub mod Moving
 pub mod Symbols
 pub mod Gears
+pub mod Keeping

@@ -1,5 +1,5 @@
 //! The machine over truths.
-ghost use Rattle.std.specs.Prelude.{◌≡◌, ℕ, ◌^◌, ◌<◌, ◌≤◌, true, false, length, replicate, None, All, IfOk, OnErr};
+ghost use Rattle.std.specs.Prelude.{◌≡◌, ℕ, ◌^◌, ◌<◌, ◌≤◌, true, false, length, replicate, None, All, IfErr, IfOk, OnErr};
 ghost use Rattle.switch_paths.specs.declared.TheConstants.{RAILS};
 ghost use Rattle.switch_paths.specs.Words.{nodes, IsWired};
 ghost use Rattle.settling.specs.declared.settling.TheConstants.{MOST_LIMIT};
@@ -11,6 +11,7 @@ ghost use Rattle.truth_columns.specs.Columns.{AreKept};
 ghost use Rattle.truth_parts.specs.Columns.{AreColumns, HasStates};
 ghost use Rattle.truth_parts.specs.Fitting.{HasSound};
 ghost use Rattle.truth_machine.specs.Machines.{column_of, FitsInMachine};
+ghost use Rattle.truth_machine.specs.Keeping.{KeepsTruths};
 ghost use Rattle.truth_machine.specs.Moving.{PlacesTruths, Rests, StepsColumns};
 
 use column_settling::{ColumnStepper, settle_columns};
@@ -190,8 +191,9 @@ impl<T: Truths + Drop> TruthMachine<T> {
     /// Settles each column, as it would settle alone: all take unit steps together while some column changes, at most
     /// `limit` of them, and after that joining steps while some column changes.
     ///
-    /// What is told is the greatest count of a column, and whether that column joined. If the maker runs out, it tells why;
-    /// then some steps were taken.
+    /// What is told is the greatest count of a column, and whether that column joined. If the maker runs out, it tells why,
+    /// which is so of the maker as it is then, and some steps were taken. Either way the maker has all truths that it had, and
+    /// its bound.
     pub fn settle(&mut self, graph: &Graph, limit: u64) -> Result<Settled, T::Fault>
         requires fits { FitsInMachine T.columns T.holds graph.now self.old }
         requires some { 0 < T.columns self.old.maker }
@@ -199,6 +201,10 @@ impl<T: Truths + Drop> TruthMachine<T> {
         ensures settles { IfOk result (SettleTogether graph.now (T.columns self.old.maker) (column_of T.holds self.old) limit (column_of T.holds self.new)) }
         ensures fits { FitsInMachine T.columns T.holds graph.now self.new }
         ensures columns { T.columns self.new.maker ≡ T.columns self.old.maker }
+        ensures kept { AreKept (T.columns self.old.maker) (T.has self.old.maker) (T.holds self.old.maker) (T.columns self.new.maker) (T.has self.new.maker)
+            (T.holds self.new.maker) }
+        ensures bound { T.bound self.new.maker ≡ T.bound self.old.maker }
+        ensures spent { IfErr result (T.spent self.new.maker) }
     {
         settle_columns(self, graph, limit)
     }
@@ -210,6 +216,8 @@ impl<T: Truths + Drop> TruthMachine<T> {
         ensures rests { OnErr result (Rests self.old self.new) }
         ensures kept { AreKept (T.columns self.old.maker) (T.has self.old.maker) (T.holds self.old.maker) (T.columns self.new.maker) (T.has self.new.maker)
             (T.holds self.new.maker) }
+        ensures bound { T.bound self.new.maker ≡ T.bound self.old.maker }
+        ensures spent { IfErr result (T.spent self.new.maker) }
         ensures highs { All (T.has self.old.maker) self.old.hi }
         ensures lows { All (T.has self.old.maker) self.old.lo }
         ensures fits { FitsInMachine T.columns T.holds graph.now self.old → FitsInMachine T.columns T.holds graph.now self.new }
@@ -229,6 +237,8 @@ impl<T: Truths + Drop> TruthMachine<T> {
         ensures rests { OnErr result (Rests self.old self.new) }
         ensures kept { AreKept (T.columns self.old.maker) (T.has self.old.maker) (T.holds self.old.maker) (T.columns self.new.maker) (T.has self.new.maker)
             (T.holds self.new.maker) }
+        ensures bound { T.bound self.new.maker ≡ T.bound self.old.maker }
+        ensures spent { IfErr result (T.spent self.new.maker) }
         ensures highs { All (T.has self.old.maker) self.old.hi }
         ensures lows { All (T.has self.old.maker) self.old.lo }
         ensures nodes { (column : ℕ) → column < T.columns self.old.maker
@@ -258,6 +268,10 @@ impl<T: Truths + Drop> ColumnStepper for TruthMachine<T> {
     ghost state = { λ machine column. column_of T.holds machine column };
 
     ghost fits = { λ machine g. FitsInMachine T.columns T.holds g machine };
+
+    ghost keeps = { λ old new. KeepsTruths T.columns T.has T.holds T.bound old new };
+
+    ghost spent = { λ machine why. T.spent machine.maker why };
 
     fn step(&mut self, graph: &Graph) -> Result<bool, T::Fault> {
         self.step_on(graph, false)

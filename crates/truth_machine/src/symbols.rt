@@ -1,5 +1,5 @@
 //! The machine over functions of variables: what its maker makes for those who use it.
-ghost use Rattle.std.specs.Prelude.{◌≡◌, ℕ, ◌<◌, ◌≤◌, ◌||◌, Bool, length, IfErr, IfOk};
+ghost use Rattle.std.specs.Prelude.{◌≡◌, ℕ, ◌<◌, ◌≤◌, ◌||◌, Bool, not, length, IfErr, IfOk};
 ghost use Rattle.decision_graph.specs.Meaning.{holds};
 ghost use Rattle.decision_graph.specs.declared.graph.GraphFault.TheVariants as fault;
 ghost use Rattle.formula_functions.specs.Tables.{AreInside, named_under};
@@ -75,5 +75,17 @@ impl TruthMachine<Symbols> {
             ≡ (holds self.old.maker.graph.vertices vars a.place || holds self.old.maker.graph.vertices vars b.place)) }
     {
         self.truths.graph.or(a, b)
+    }
+
+    /// Where a function doesn't hold.
+    pub fn negated(&mut self, a: Function) -> Result<Function, GraphFault>
+        requires { a.place < length self.old.maker.graph.vertices }
+        ensures makes { MakesMore self.old self.new }
+        ensures full { IfErr result (λ why. why ≡ fault.Full → self.new.maker.graph.most ≤ length self.new.maker.graph.vertices) }
+        ensures inside { IfOk result (λ made. made.place < length self.new.maker.graph.vertices) }
+        ensures value { IfOk result (λ made. (vars : ℕ → Bool) →
+            holds self.new.maker.graph.vertices vars made.place ≡ not (holds self.old.maker.graph.vertices vars a.place)) }
+    {
+        self.truths.graph.not(a)
     }
 }

@@ -1,7 +1,8 @@
 //! Functions of variables: a column for each valuation.
-ghost use Rattle.std.specs.Prelude.{◌≡◌, ◌↔◌, ℕ, ◌<◌, ◌^◌, Bool, true, false, length, IfOk, IfSome, IfNone, IsTrue};
+ghost use Rattle.std.specs.Prelude.{◌≡◌, ◌↔◌, ℕ, ◌<◌, ◌≤◌, ◌^◌, Bool, true, false, length, IfOk, IfSome, IfNone, IsTrue};
 ghost use Rattle.straight_code.specs.Flat.{kind_value};
 ghost use Rattle.decision_graph.specs.Meaning.{assigned};
+ghost use Rattle.decision_graph.specs.declared.graph.GraphFault.TheVariants as fault;
 ghost use Rattle.truth_columns.specs.Columns.{AreKept};
 ghost use Rattle.truth_makers.specs.Valuations.{holds_in, column_of, IsFirstColumn};
 
@@ -43,6 +44,10 @@ impl Truths for Symbols {
     ghost has = { λ symbols function. function.place < length symbols.graph.vertices };
 
     ghost holds = { λ symbols function column. holds_in symbols.graph.variables symbols.graph.vertices column function.place };
+
+    ghost bound = { λ symbols. symbols.graph.most };
+
+    ghost spent = { λ symbols why. why ≡ fault.Full → symbols.graph.most ≤ length symbols.graph.vertices };
 
     fn constant(&self, value: bool) -> Function {
         self.graph.constant(value)

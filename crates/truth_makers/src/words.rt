@@ -67,6 +67,10 @@ impl Truths for WordTruths {
 
     ghost holds = { λ columns word column. is_in_column column word };
 
+    ghost bound = { λ columns. 64 };
+
+    ghost spent = { λ columns never. ⊥ };
+
     fn constant(&self, value: bool) -> u64 {
         self.used();
         all_or_none(value)

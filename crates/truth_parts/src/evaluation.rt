@@ -1,5 +1,5 @@
 //! The evaluation of the marked parts: their codes run on the old rails, and what changes is noted.
-ghost use Rattle.std.specs.Prelude.{◌≡◌, ℕ, ◌+◌, ◌*◌, ◌<◌, ◌≤◌, List, [], length, map, take, All, vec_len, vec_capacity, OnOk};
+ghost use Rattle.std.specs.Prelude.{◌≡◌, ℕ, ◌+◌, ◌*◌, ◌<◌, ◌≤◌, List, [], length, map, take, All, vec_len, vec_capacity, IfErr, OnOk};
 ghost use Rattle.ternary.specs.declared.tern.Tern.{Tern};
 ghost use Rattle.switch_paths.specs.Switching.{state_at};
 ghost use Rattle.straight_code.specs.Code.{code_value};
@@ -40,6 +40,8 @@ pub fn evaluate_all<T: Truths>(
     requires changes_room { marked_sum members_of parts.now agenda.old ≤ vec_capacity workspace.old.changes }
     requires done_room { count_marked agenda.old ≤ vec_capacity workspace.old.done }
     ensures kept { AreKept (T.columns truths.old) (T.has truths.old) (T.holds truths.old) (T.columns truths.new) (T.has truths.new) (T.holds truths.new) }
+    ensures bound { T.bound truths.new ≡ T.bound truths.old }
+    ensures spent { IfErr result (T.spent truths.new) }
     ensures taken { AreTaken agenda.old agenda.new workspace.new.done.items }
     ensures evaluated { OnOk result (Evaluated joining parts.now (T.columns truths.new) (T.holds truths.new) hi.now lo.now workspace.new.changes.items workspace.new.done.items) }
     ensures own { All (IsOf (T.has truths.new)) workspace.new.changes.items }
@@ -71,6 +73,8 @@ fn evaluate<T: Truths>(
     requires own { All (IsOf (T.has truths.old)) workspace.old.changes.items }
     requires room { vec_len workspace.old.changes + part.now.members ≤ vec_capacity workspace.old.changes }
     ensures kept { AreKept (T.columns truths.old) (T.has truths.old) (T.holds truths.old) (T.columns truths.new) (T.has truths.new) (T.holds truths.new) }
+    ensures bound { T.bound truths.new ≡ T.bound truths.old }
+    ensures spent { IfErr result (T.spent truths.new) }
     ensures changes { OnOk result ((parts : List MachinePart) (k : ℕ) → Stands parts k part.now
         → Reports joining parts (T.columns truths.new) (T.holds truths.new) hi.now lo.now k workspace.old.changes.items workspace.new.changes.items) }
     ensures own { All (IsOf (T.has truths.new)) workspace.new.changes.items }
@@ -107,6 +111,8 @@ fn run_part<T: Truths>(
     requires lows { All (T.has truths.old) lo.now }
     requires workspace { IsWorkspace (T.has truths.old) workspace.old }
     ensures kept { AreKept (T.columns truths.old) (T.has truths.old) (T.holds truths.old) (T.columns truths.new) (T.has truths.new) (T.holds truths.new) }
+    ensures bound { T.bound truths.new ≡ T.bound truths.old }
+    ensures spent { IfErr result (T.spent truths.new) }
     ensures value { OnOk result ((column : ℕ) (state : List Tern) → column < T.columns truths.old → HasColumn (T.holds truths.old) column hi.now lo.now state
         → HasColumn (T.holds truths.new) column (take (length code.now.outputs) workspace.new.out_hi.items) (take (length code.now.outputs) workspace.new.out_lo.items)
         (code_value code.now (map (state_at state) nodes.now))) }
@@ -150,6 +156,8 @@ fn run_front<T: Truths>(
     requires high_has { All (T.has truths.old) out_hi.old }
     requires low_has { All (T.has truths.old) out_lo.old }
     ensures kept { AreKept (T.columns truths.old) (T.has truths.old) (T.holds truths.old) (T.columns truths.new) (T.has truths.new) (T.holds truths.new) }
+    ensures bound { T.bound truths.new ≡ T.bound truths.old }
+    ensures spent { IfErr result (T.spent truths.new) }
     ensures values_has { All (T.has truths.new) values.new }
     ensures high_has { All (T.has truths.new) out_hi.new }
     ensures low_has { All (T.has truths.new) out_lo.new }
@@ -182,6 +190,8 @@ fn note_outputs<T: Truths>(
     requires own { All (IsOf (T.has truths.old)) workspace.old.changes.items }
     requires room { vec_len workspace.old.changes + part.now.members ≤ vec_capacity workspace.old.changes }
     ensures kept { AreKept (T.columns truths.old) (T.has truths.old) (T.holds truths.old) (T.columns truths.new) (T.has truths.new) (T.holds truths.new) }
+    ensures bound { T.bound truths.new ≡ T.bound truths.old }
+    ensures spent { IfErr result (T.spent truths.new) }
     ensures changes { OnOk result (Notes joining (T.columns truths.new) (T.holds truths.new) part.now.map.items hi.now lo.now
         (take part.now.members workspace.old.out_hi.items) (take part.now.members workspace.old.out_lo.items) part.now.members
         workspace.old.changes.items workspace.new.changes.items) }

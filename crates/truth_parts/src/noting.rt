@@ -1,5 +1,5 @@
 //! What is noted of the next rails of nodes.
-ghost use Rattle.std.specs.Prelude.{◌≡◌, ℕ, ◌+◌, ◌<◌, ◌≤◌, false, length, All, vec_len, vec_capacity, IfOk, OnOk, IfSome, IfNone};
+ghost use Rattle.std.specs.Prelude.{◌≡◌, ℕ, ◌+◌, ◌<◌, ◌≤◌, false, length, All, vec_len, vec_capacity, IfErr, IfOk, OnOk, IfSome, IfNone};
 ghost use Rattle.std.specs.Bool.{OnTrue};
 ghost use Rattle.truth_columns.specs.Columns.{AreKept};
 ghost use Rattle.truth_parts.specs.Noting.{after_rail, with_found, AreAlike, AreUnlike, IsNextFrom, IsOf, Notes, StaysBy};
@@ -30,6 +30,8 @@ pub(crate) fn note_all<T: Truths>(
     requires others { All (T.has truths.old) others.now }
     requires own { All (IsOf (T.has truths.old)) changes.old.items }
     ensures kept { AreKept (T.columns truths.old) (T.has truths.old) (T.holds truths.old) (T.columns truths.new) (T.has truths.new) (T.holds truths.new) }
+    ensures bound { T.bound truths.new ≡ T.bound truths.old }
+    ensures spent { IfErr result (T.spent truths.new) }
     ensures changes { OnOk result (Notes joining (T.columns truths.new) (T.holds truths.new) nodes.now hi.now lo.now ones.now others.now (length ones.now)
         changes.old.items changes.new.items) }
     ensures own { All (IsOf (T.has truths.new)) changes.new.items }
@@ -73,6 +75,8 @@ fn next_of<T: Truths>(
     requires one { T.has truths.old one }
     requires other { T.has truths.old other }
     ensures kept { AreKept (T.columns truths.old) (T.has truths.old) (T.holds truths.old) (T.columns truths.new) (T.has truths.new) (T.holds truths.new) }
+    ensures bound { T.bound truths.new ≡ T.bound truths.old }
+    ensures spent { IfErr result (T.spent truths.new) }
     ensures changes { IfOk result (λ found. IfSome found (IsNextFrom joining (T.columns truths.new) (T.has truths.new) (T.holds truths.new) node hi lo one other)) }
     ensures stays { IfOk result (λ found. IfNone found (StaysBy joining (T.columns truths.new) (T.holds truths.new) hi lo one other)) }
 {
@@ -98,6 +102,8 @@ fn after<T: Truths>(
     requires old { T.has truths.old old }
     requires given { T.has truths.old given }
     ensures kept { AreKept (T.columns truths.old) (T.has truths.old) (T.holds truths.old) (T.columns truths.new) (T.has truths.new) (T.holds truths.new) }
+    ensures bound { T.bound truths.new ≡ T.bound truths.old }
+    ensures spent { IfErr result (T.spent truths.new) }
     ensures has { IfOk result (T.has truths.new) }
     ensures value { IfOk result (λ made. (column : ℕ) → column < T.columns truths.old
         → T.holds truths.new made column ≡ after_rail joining (T.holds truths.old old column) (T.holds truths.old given column)) }

@@ -1,5 +1,5 @@
 //! One step of all columns: all marked parts are evaluated on the old rails, and then the changes are taken over.
-ghost use Rattle.std.specs.Prelude.{◌≡◌, ℕ, ◌<◌, Bool, true, List, length, All, Contains, IfOk, OnErr};
+ghost use Rattle.std.specs.Prelude.{◌≡◌, ℕ, ◌<◌, Bool, true, List, length, All, Contains, IfErr, IfOk, OnErr};
 ghost use Rattle.truth_columns.specs.Columns.{AreKept};
 ghost use Rattle.machine_parts.specs.Marking.{MarksAll};
 ghost use Rattle.truth_parts.specs.Evaluating.{rooms, AreTaken, IsWorkspace};
@@ -15,7 +15,7 @@ use truth_columns::Truths;
 /// Takes a step of all columns, plain or joining, and answers whether it changes some column.
 ///
 /// Its work is that of the marked parts, and of the parts that read a node that changes. If the maker runs out, it tells
-/// why, and all rails and marks are as before.
+/// why, which is so of the maker as it is then, and all rails and marks are as before.
 pub fn advance<T: Truths>(
     joining: bool,
     truths: &mut T,
@@ -32,6 +32,8 @@ pub fn advance<T: Truths>(
     requires runnable { IsRunnable parts.now agenda.old (length hi.old) readers.now (rooms workspace.old) }
     requires workspace { IsWorkspace (T.has truths.old) workspace.old }
     ensures kept { AreKept (T.columns truths.old) (T.has truths.old) (T.holds truths.old) (T.columns truths.new) (T.has truths.new) (T.holds truths.new) }
+    ensures bound { T.bound truths.new ≡ T.bound truths.old }
+    ensures spent { IfErr result (T.spent truths.new) }
     ensures highs { All (T.has truths.new) hi.new }
     ensures lows { All (T.has truths.new) lo.new }
     ensures columns { IfOk result (StepsInAll joining parts.now (T.columns truths.new) (T.holds truths.new) agenda.old agenda.new hi.old lo.old hi.new lo.new) }

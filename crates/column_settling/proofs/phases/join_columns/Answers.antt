@@ -1,13 +1,16 @@
 -- One joining step more in each column, and the one that changes none.
 use Rattle.std.proofs.Common.{ℕ, ◌<◌, true, refl, ◌∙◌, inl, inr, arith}
+use Rattle.std.proofs.lemmas.Result.{err_from_is_err_and}
 use Rattle.settling.proofs.KnownStates.{known-all}
 use Rattle.column_settling.proofs.JoiningLemmas.{JoinsOn-start, JoinsOn-steps, JoinsOn-moves, JoinsWithin-ends, front-ends, sum_below-falls, known_in, known_in-falls, known_in-low}
+use Rattle.column_settling.proofs.ReachingLemmas.{reaches_more, reaches_none}
 use Rattle.column_settling.proofs.phases.join_columns.Goals as goal
 
 pub joining-init : goal.joining-init
 joining-init g c = record {
   fits = c.requires;
   columns = refl;
+  keeps = reaches_none g.M.ColumnStepper.keeps c.args.m.now;
   nodes = λ column inside. refl;
   each = λ column inside. JoinsOn-start c.args.graph.now (g.M.ColumnStepper.state c.args.m.now column);
   front = inl refl;
@@ -30,6 +33,7 @@ joining-preserved g c =
     record {
       fits = step.fits loop.invariant.fits;
       columns = step.columns ∙ loop.invariant.columns;
+      keeps = reaches_more g.M.ColumnStepper.keeps c.args.m.now loop.m c.join_step.new.self loop.invariant.keeps step.keeps;
       nodes = λ column within. step.nodes column (omega (arith, within, loop.invariant.columns)) ∙ loop.invariant.nodes column within;
       each = λ column within.
           let own : column < g.M.ColumnStepper.columns loop.m = omega (arith, within, loop.invariant.columns) in
@@ -78,3 +82,17 @@ returns-then-not-moved-clause-together g c =
         )
       ];
     }
+
+pub returns-then-not-moved-clause-keeps : goal.returns-then-not-moved-clause-keeps
+returns-then-not-moved-clause-keeps g c =
+    reaches_more g.M.ColumnStepper.keeps c.args.m.now c.joining.m c.join_step.new.self c.joining.invariant.keeps c.join_step.ensures.keeps
+
+pub returns-in_err-moved-clause-keeps : goal.returns-in_err-moved-clause-keeps
+returns-in_err-moved-clause-keeps g c =
+    reaches_more g.M.ColumnStepper.keeps c.args.m.now c.joining.m c.join_step.new.self c.joining.invariant.keeps c.join_step.ensures.keeps
+
+-- what a fault tells that is passed on is so still
+pub returns-in_err-moved-clause-spent : goal.returns-in_err-moved-clause-spent
+returns-in_err-moved-clause-spent g c =
+    let p = err_from_is_err_and c.from_residual.result c.from_residual.ensures.1 in
+    rw (p.1, p.2) c.in_err-moved.ensures.spent

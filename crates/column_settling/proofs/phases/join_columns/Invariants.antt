@@ -1,5 +1,6 @@
 -- Each column goes on from the joining steps that changed it, some column moved in each of them, and each left fewer nodes that can become X.
 use Rattle.std.proofs.Common.{◌≡◌, ℕ, ◌<◌, ◌^◌, length}
+use Rattle.column_settling.specs.Reaching.{Reaches}
 use Rattle.column_settling.proofs.JoiningLemmas.{JoinsOn, JoinFront, sum_below, known_in}
 use Rattle.column_settling.proofs.phases.join_columns.Given as goal
 
@@ -7,6 +8,7 @@ abbrev pub invariant-joining : goal.invariant-joining
 invariant-joining g l = record {
   fits : g.M.ColumnStepper.fits l.m l.graph;
   columns : g.M.ColumnStepper.columns l.m ≡ g.M.ColumnStepper.columns l.initial.m;
+  keeps : Reaches g.M.ColumnStepper.keeps l.initial.m l.m;
   nodes : (column : ℕ) → column < g.M.ColumnStepper.columns l.initial.m → length (g.M.ColumnStepper.state l.m column) ≡ length (g.M.ColumnStepper.state l.initial.m column);
   each : (column : ℕ) → column < g.M.ColumnStepper.columns l.initial.m →
       JoinsOn l.graph l.taken (g.M.ColumnStepper.state l.initial.m column) (g.M.ColumnStepper.state l.m column);

@@ -1,7 +1,9 @@
 -- One step more in each column, the step that changes none, and the limit.
 use Rattle.std.proofs.Common.{◌≡◌, ℕ, ◌<◌, refl, ◌∙◌, subst, arith}
+use Rattle.std.proofs.lemmas.Result.{err_from_is_err_and}
 use Rattle.switch_paths.specs.Step.{IsStep}
 use Rattle.column_settling.proofs.GoingLemmas.{Going, Going-start, Going-rests, Going-ends, GoesOn-steps, Going-front, StepsWithin-rests, StepsWithin-ends}
+use Rattle.column_settling.proofs.ReachingLemmas.{reaches_more, reaches_none}
 use Rattle.column_settling.proofs.phases.step_columns.Goals as goal
 
 pub loop-taken-init : goal.loop-taken-init
@@ -10,6 +12,7 @@ loop-taken-init g c =
     record {
       fits = λ fits. fits;
       columns = refl;
+      keeps = reaches_none g.M.ColumnStepper.keeps c.args.m.now;
       each = λ fits column inside. record { count = 0; going = Going-start c.args.graph.now c.args.limit (state column) };
       front = λ fits. (0, c.requires.some, Going-start c.args.graph.now c.args.limit (state 0));
     }
@@ -26,6 +29,7 @@ loop-taken-preserved g c =
     record {
       fits = λ fits. c.step.ensures.fits (loop.invariant.fits fits);
       columns = c.step.ensures.columns ∙ loop.invariant.columns;
+      keeps = reaches_more g.M.ColumnStepper.keeps c.args.m.now loop.m c.step.new.self loop.invariant.keeps c.step.ensures.keeps;
       each = λ fits column inside.
           GoesOn-steps graph c.args.limit loop.taken (start column) (now column) (next column) c.loop-taken-test.true (loop.invariant.each fits column inside)
           (c.in_ok-moved.ensures.step (loop.invariant.fits fits) column (within column inside));
@@ -82,3 +86,17 @@ returns-clause-together g c = λ fits.
             (subst (λ n. Going graph c.args.limit n (start front.0) n (now front.0)) last front.2),
       );
     }
+
+pub returns-then-not-moved-clause-keeps : goal.returns-then-not-moved-clause-keeps
+returns-then-not-moved-clause-keeps g c =
+    reaches_more g.M.ColumnStepper.keeps c.args.m.now c.loop-taken.m c.step.new.self c.loop-taken.invariant.keeps c.step.ensures.keeps
+
+pub returns-in_err-moved-clause-keeps : goal.returns-in_err-moved-clause-keeps
+returns-in_err-moved-clause-keeps g c =
+    reaches_more g.M.ColumnStepper.keeps c.args.m.now c.loop-taken.m c.step.new.self c.loop-taken.invariant.keeps c.step.ensures.keeps
+
+-- what a fault tells that is passed on is so still
+pub returns-in_err-moved-clause-spent : goal.returns-in_err-moved-clause-spent
+returns-in_err-moved-clause-spent g c =
+    let p = err_from_is_err_and c.from_residual.result c.from_residual.ensures.1 in
+    rw (p.1, p.2) c.in_err-moved.ensures.spent

@@ -1,5 +1,6 @@
 -- In each column each output has its rails.
 use Rattle.std.proofs.Common.{◌≡◌, ℕ, ◌+◌, ◌*◌, ◌<◌, length, map, take, refl, ap, ◌∙◌, subst, arith}
+use Rattle.std.proofs.lemmas.Result.{err_from_is_err_and}
 use Rattle.std.proofs.lemmas.List.{length-map, take_all}
 use Rattle.std.proofs.lemmas.List.Elements.{All-set}
 use Rattle.ternary.specs.Tern.{may_one, may_zero}
@@ -12,6 +13,7 @@ use Rattle.truth_columns.proofs.outputs.write_outputs.Goals as goal
 pub loop-k-init : goal.loop-k-init
 loop-k-init g c = record {
   kept = AreKept-same (g.T.Truths.columns c.args.truths.now) (g.T.Truths.has c.args.truths.now) (g.T.Truths.holds c.args.truths.now);
+  bound = refl;
   high_has = c.requires.high_has;
   low_has = c.requires.low_has;
   written = λ column input inside many whole. (refl, refl);
@@ -33,6 +35,7 @@ loop-k-preserved g c =
     let end : ℕ = 2 + 2 * code.inputs + length code.instructions in
     record {
       kept = AreKept-trans _ _ _ _ _ _ _ _ _ so_far.kept kept;
+      bound = c.output.ensures.bound ∙ so_far.bound;
       high_has = All-set (g.T.Truths.has new) c.loop-k.out_hi k rails.0 c.in_ok-rails.ensures.has.0
           (All-kept _ _ _ _ _ _ c.loop-k.out_hi kept so_far.high_has);
       low_has = All-set (g.T.Truths.has new) c.loop-k.out_lo k rails.1 c.in_ok-rails.ensures.has.1
@@ -70,3 +73,9 @@ returns-clause-written g c = λ column input inside many whole.
       ones = values_in-take (g.T.Truths.holds new) column k c.loop-k.out_hi ∙ done.0 ∙ ap (map may_one) all;
       zeros = values_in-take (g.T.Truths.holds new) column k c.loop-k.out_lo ∙ done.1 ∙ ap (map may_zero) all;
     })
+
+-- what a fault tells that is passed on is so still
+pub returns-in_err-rails-clause-spent : goal.returns-in_err-rails-clause-spent
+returns-in_err-rails-clause-spent g c =
+    let p = err_from_is_err_and c.from_residual.result c.from_residual.ensures.1 in
+    rw (p.1, p.2) c.in_err-rails.ensures.spent

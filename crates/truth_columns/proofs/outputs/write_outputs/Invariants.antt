@@ -11,6 +11,7 @@ abbrev pub invariant-loop-k : goal.invariant-loop-k
 invariant-loop-k g l = record {
   kept : AreKept (g.T.Truths.columns l.fn.truths) (g.T.Truths.has l.fn.truths) (g.T.Truths.holds l.fn.truths)
       (g.T.Truths.columns l.truths) (g.T.Truths.has l.truths) (g.T.Truths.holds l.truths);
+  bound : g.T.Truths.bound l.truths ≡ g.T.Truths.bound l.fn.truths;
   high_has : All (g.T.Truths.has l.truths) l.out_hi;
   low_has : All (g.T.Truths.has l.truths) l.out_lo;
   written : (column : ℕ) (input : List Tern) → column < g.T.Truths.columns l.fn.truths → length input ≡ l.code.inputs →

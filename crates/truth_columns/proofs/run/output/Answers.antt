@@ -1,5 +1,6 @@
 -- Both places of the output stand in the array, and in each column they have its rails.
 use Rattle.std.proofs.Common.{subst, sym, ap, ◌∙◌, arith}
+use Rattle.std.proofs.lemmas.Result.{err_from_is_err_and}
 use Rattle.ternary.specs.Tern.{may_one, may_zero}
 use Rattle.truth_columns.proofs.ColumnLemmas.{pair_reads, output_in_column}
 use Rattle.truth_columns.proofs.run.output.Goals as goal
@@ -41,3 +42,9 @@ returns-clause-rails g c = λ column input inside many whole.
     c.index-values-pair.result c.index-values-pair-2.result many c.requires.room c.index-values-pair.is c.index-values-pair-2.is whole in
     let rails = c.in_ok-rails.ensures.rails column inside in
     (rails.0 ∙ ap may_one state, rails.1 ∙ ap may_zero state)
+
+-- what a fault tells that is passed on is so still
+pub returns-in_err-rails-clause-spent : goal.returns-in_err-rails-clause-spent
+returns-in_err-rails-clause-spent g c =
+    let p = err_from_is_err_and c.from_residual.result c.from_residual.ensures.1 in
+    rw (p.1, p.2) c.in_err-rails.ensures.spent

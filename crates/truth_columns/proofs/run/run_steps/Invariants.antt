@@ -10,6 +10,7 @@ abbrev pub invariant-loop-k : goal.invariant-loop-k
 invariant-loop-k g l = record {
   kept : AreKept (g.T.Truths.columns l.fn.truths) (g.T.Truths.has l.fn.truths) (g.T.Truths.holds l.fn.truths)
       (g.T.Truths.columns l.truths) (g.T.Truths.has l.truths) (g.T.Truths.holds l.truths);
+  bound : g.T.Truths.bound l.truths ≡ g.T.Truths.bound l.fn.truths;
   has : All (g.T.Truths.has l.truths) l.values;
   ran : (column : ℕ) (input : List Tern) → column < g.T.Truths.columns l.fn.truths → length input ≡ l.code.inputs →
       take (2 + 2 * l.code.inputs) (values_in (g.T.Truths.holds l.fn.truths) column l.fn.values) ≡ flat_values input [] →

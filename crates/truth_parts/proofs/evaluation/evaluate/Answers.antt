@@ -1,5 +1,6 @@
 -- A part with code fits the room, and what its code gives is noted.
 use Rattle.std.proofs.Common.{◌≡◌, ◌<◌, ◌∙◌, ℕ, List, length, map, take, sym, ap, subst, Vec, Global, arith}
+use Rattle.std.proofs.lemmas.Result.{err_from_is_err_and}
 use Rattle.std.proofs.lemmas.List.{length-take-le}
 use Rattle.std.proofs.lemmas.List.Elements.{All-take}
 use Rattle.ternary.specs.declared.tern.Tern.{Tern}
@@ -76,3 +77,14 @@ returns-in_ok-note_outputs-in-Some-clause-changes g c = λ parts k stands.
     Reports-from_Notes c.args.joining parts (g.T.Truths.columns new) (g.T.Truths.holds new) hi lo c.requires.rails k part code stands c.in-Some.is seat.members
     seat.below ones others high_count (low_count ∙ sym high_count) given c.args.workspace.now.changes.items
     c.note_outputs.new.workspace.changes.items notes
+
+-- what a fault tells that is passed on is so still
+pub returns-in_err-run_part-in-Some-clause-spent : goal.returns-in_err-run_part-in-Some-clause-spent
+returns-in_err-run_part-in-Some-clause-spent g c =
+    let p = err_from_is_err_and c.from_residual.result c.from_residual.ensures.1 in
+    rw (p.1, p.2) c.in_err-run_part-in-Some.ensures.spent
+
+pub returns-in_err-note_outputs-in-Some-clause-spent : goal.returns-in_err-note_outputs-in-Some-clause-spent
+returns-in_err-note_outputs-in-Some-clause-spent g c =
+    let p = err_from_is_err_and c.from_residual-in_err-note_outputs-in-Some.result c.from_residual-in_err-note_outputs-in-Some.ensures.1 in
+    rw (p.1, p.2) c.in_err-note_outputs-in-Some.ensures.spent

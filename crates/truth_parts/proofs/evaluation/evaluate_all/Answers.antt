@@ -1,5 +1,6 @@
 -- One part more is evaluated.
 use Rattle.std.proofs.Common.{◌≡◌, ◌<◌, ℕ, [], ◌∷◌, ◌++◌, Vec, Global, length, refl, sym, ap, subst, ◌∙◌, arith}
+use Rattle.std.proofs.lemmas.Result.{err_from_is_err_and}
 use Rattle.std.specs.Prelude.{slice_index_or}
 use Rattle.std.proofs.lemmas.List.Elements.{All-nil}
 use Rattle.machine_parts.specs.Marking.{members_of}
@@ -15,6 +16,7 @@ use Rattle.truth_parts.proofs.evaluation.evaluate_all.Goals as goal
 pub loop-k-init : goal.loop-k-init
 loop-k-init g c = record {
   kept = AreKept-same _ _ _;
+  bound = refl;
   taken = rw c.requires.done (AreTaken-none c.args.agenda.now);
   evaluated = rw (c.requires.changes, c.requires.done)
       (Evaluated-none c.args.joining c.args.parts.now (g.T.Truths.columns c.args.truths.now) (g.T.Truths.holds c.args.truths.now) c.args.hi.now c.args.lo.now);
@@ -78,6 +80,7 @@ loop-k-preserved g c =
     let same = c.evaluate.ensures.rooms in
     record {
       kept = AreKept-trans _ _ _ _ _ _ _ _ _ so_far.kept kept;
+      bound = c.evaluate.ensures.bound ∙ so_far.bound;
       taken = rw (cleared, done_are) (AreTaken-more c.args.agenda.now marks c.loop-k.workspace.done.items k marked so_far.taken);
       evaluated = rw done_are more;
       own = c.evaluate.ensures.own;
@@ -112,3 +115,9 @@ returns-in_err-evaluate-clause-taken g c =
     let done_are : c.evaluate.new.workspace.done.items ≡ c.loop-k.workspace.done.items ++ k ∷ [] =
     ap (λ (list : Vec ℕ Global). list.items) c.evaluate.ensures.done ∙ c.push_reserved.ensures.items in
     rw (c.in-Some.ensures.cleared, done_are) (AreTaken-more c.args.agenda.now c.loop-k.agenda c.loop-k.workspace.done.items k c.in-Some.ensures.marked c.loop-k.invariant.taken)
+
+-- what a fault tells that is passed on is so still
+pub returns-in_err-evaluate-clause-spent : goal.returns-in_err-evaluate-clause-spent
+returns-in_err-evaluate-clause-spent g c =
+    let p = err_from_is_err_and c.from_residual.result c.from_residual.ensures.1 in
+    rw (p.1, p.2) c.in_err-evaluate.ensures.spent

@@ -11,6 +11,7 @@ abbrev pub invariant-loop-k : goal.invariant-loop-k
 invariant-loop-k g l = record {
   kept : AreKept (g.T.Truths.columns l.fn.truths) (g.T.Truths.has l.fn.truths) (g.T.Truths.holds l.fn.truths)
       (g.T.Truths.columns l.truths) (g.T.Truths.has l.truths) (g.T.Truths.holds l.truths);
+  bound : g.T.Truths.bound l.truths ≡ g.T.Truths.bound l.fn.truths;
   taken : AreTaken l.fn.agenda l.agenda l.workspace.done.items;
   evaluated : Evaluated l.joining l.parts (g.T.Truths.columns l.truths) (g.T.Truths.holds l.truths) l.hi l.lo l.workspace.changes.items
       l.workspace.done.items;

@@ -1,5 +1,6 @@
 -- One place more is noted.
 use Rattle.std.proofs.Common.{◌≡◌, ◌<◌, length, refl, subst, sym, ◌∙◌, arith}
+use Rattle.std.proofs.lemmas.Result.{err_from_is_err_and}
 use Rattle.std.specs.Prelude.{slice_index}
 use Rattle.truth_columns.proofs.ColumnLemmas.{All-kept, AreKept-same, AreKept-trans}
 use Rattle.truth_parts.proofs.NotingLemmas.{All-found, Notes-none, Notes-found}
@@ -9,6 +10,7 @@ use Rattle.truth_parts.proofs.noting.note_all.Goals as goal
 pub loop-place-init : goal.loop-place-init
 loop-place-init g c = record {
   kept = AreKept-same _ _ _;
+  bound = refl;
   changes = Notes-none c.args.joining (g.T.Truths.columns c.args.truths.now) (g.T.Truths.holds c.args.truths.now) c.args.nodes.now c.args.hi.now c.args.lo.now
       c.args.ones.now c.args.others.now c.args.changes.now.items;
   own = c.requires.own;
@@ -61,6 +63,7 @@ loop-place-preserved g c =
     so_far.own so_far.changes in
     record {
       kept = AreKept-trans _ _ _ _ _ _ _ _ _ so_far.kept kept;
+      bound = c.next_of.ensures.bound ∙ so_far.bound;
       changes = rw c.note_found.ensures.items
           (Notes-found c.args.joining (g.T.Truths.columns new) (g.T.Truths.holds new) nodes hi lo ones others place inside c.requires.even c.requires.rails below
           c.index-hi-node.result c.index-lo-node.result c.index-ones-place.result c.index-others-place.result c.index-hi-node.is c.index-lo-node.is
@@ -79,3 +82,9 @@ returns-clause-changes g c =
 
 pub returns-in_err-found-clause-own : goal.returns-in_err-found-clause-own
 returns-in_err-found-clause-own g c = AreOf-kept _ _ _ _ _ _ c.next_of.ensures.kept c.loop-place.changes.items c.loop-place.invariant.own
+
+-- what a fault tells that is passed on is so still
+pub returns-in_err-found-clause-spent : goal.returns-in_err-found-clause-spent
+returns-in_err-found-clause-spent g c =
+    let p = err_from_is_err_and c.from_residual.result c.from_residual.ensures.1 in
+    rw (p.1, p.2) c.in_err-found.ensures.spent

@@ -107,6 +107,12 @@ returns-clause-unknown g c =
 pub returns-clause-kept : goal.returns-clause-kept
 returns-clause-kept g c = rw (← c.self.view_is) c.advance.ensures.kept
 
+pub returns-clause-bound : goal.returns-clause-bound
+returns-clause-bound g c = rw (← c.self.view_is) c.advance.ensures.bound
+
+pub returns-clause-spent : goal.returns-clause-spent
+returns-clause-spent g c = c.advance.ensures.spent
+
 pub returns-clause-highs : goal.returns-clause-highs
 returns-clause-highs g c = rw (← c.self.view_is) c.self.invariant.0.highs
 

@@ -28,3 +28,9 @@ returns-clause-err g c =
     let s = c.step_on.ensures in
     on_fault c.step_on.result (Rests c.args.self.now c.step_on.new.self) _ s.rests
     (λ rests. column-rests g.T.Truths.columns g.T.Truths.has g.T.Truths.holds c.args.self.now c.step_on.new.self s.kept s.highs s.lows rests)
+
+pub returns-clause-keeps : goal.returns-clause-keeps
+returns-clause-keeps g c = record { kept = c.step_on.ensures.kept; bounded = c.step_on.ensures.bound }
+
+pub returns-clause-spent : goal.returns-clause-spent
+returns-clause-spent g c = c.step_on.ensures.spent
