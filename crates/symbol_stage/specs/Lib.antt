@@ -1,0 +1,4 @@
+pub mod Stages
+pub mod Compacting
+pub mod Given
+pub mod Acts
