@@ -3,3 +3,4 @@ pub mod Decks
 pub mod Samples
 pub mod Requests
 pub mod Talks
+pub mod Symbols

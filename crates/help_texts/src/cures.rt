@@ -10,11 +10,11 @@ use crate::finding::text_of;
 /// Each `{}` stands for the word concerned. For N1, N2, S1, S2, S3, P1, P2 and P3 it is the first word
 /// of the line; for N3 the format, for N5 the word that begins with `caps:`; for E1, E3, S6 and S7 the
 /// node's name as the line has it, or the vector's that has the node, for S12 the vector's, for S14 the
-/// assignment, for E6 the second name; for S16 the name; for E2 and S5 the word in
+/// assignment, for E6 the second name; for S16 the name, for S18 that of the `let`; for E2 and S5 the word in
 /// the place of the number, for S4 that in the place of the assignment or the kind; for E4 and E5 the
 /// strength and the size; for G1 and G2 the name that the refusal has; for P4 to P8 the subcircuit's
 /// name, for P10 the model's. The others have none.
-pub const CURES: [(&str, &str); 46] = [
+pub const CURES: [(&str, &str); 48] = [
     (
         "L1 LineTooLong",
         "the line has more than 65,536 bytes; write it as several shorter ones",
@@ -142,6 +142,14 @@ pub const CURES: [(&str, &str); 46] = [
     (
         "S17 LateWatch",
         "a dump's words are told at its head; put 'watch' before the first step, phase or cycle",
+    ),
+    (
+        "S18 NameDefined",
+        "'{}' is defined, or is a variable by now; give this one another name, or put its 'let' before its uses",
+    ),
+    (
+        "S19 TooManyVariables",
+        "there would be more than 4,096 variables; leave fewer bits open, or give some of them letters",
     ),
     (
         "F1 BadFault",

@@ -4,7 +4,7 @@ use Rattle.std.specs.Prelude.{ℕ, List, [], ◌++◌, codes, decimal}
 use Rattle.printed_lines.specs.declared.faults.FaultPlace.{FaultPlace}
 use Rattle.printed_lines.specs.declared.faults.FaultPlace.TheVariants.{Net, NetWhole, Script, List as OfList, Node, Heard}
 use Rattle.printed_lines.specs.declared.faults.FaultCode.{FaultCode}
-use Rattle.printed_lines.specs.declared.faults.FaultCode.TheVariants.{L1LineTooLong, L2BadByte, N1BadRecord, N2FewWords, N3Format, N4TooLong, N5BadCaps, G1GroupNodes, G2GroupSwitches, E1UnknownNode, E2NoSuchSwitch, E3Rail, E4BadStrength, E5BadSize, E6AliasTaken, E7TooManyNodes, E8TooManySwitches, S1BadCommand, S2FewWords, S3ManyWords, S4BadValue, S5BadNumber, S6NotInput, S7NotStore, S8ClockLength, S9NoClock, S10TooManyWatched, S11TooLong, S12NameTaken, S13TooMany, S14VectorValue, S15TooManySaves, S16NoSave, S17LateWatch, F1BadFault, F2TooLong}
+use Rattle.printed_lines.specs.declared.faults.FaultCode.TheVariants.{L1LineTooLong, L2BadByte, N1BadRecord, N2FewWords, N3Format, N4TooLong, N5BadCaps, G1GroupNodes, G2GroupSwitches, E1UnknownNode, E2NoSuchSwitch, E3Rail, E4BadStrength, E5BadSize, E6AliasTaken, E7TooManyNodes, E8TooManySwitches, S1BadCommand, S2FewWords, S3ManyWords, S4BadValue, S5BadNumber, S6NotInput, S7NotStore, S8ClockLength, S9NoClock, S10TooManyWatched, S11TooLong, S12NameTaken, S13TooMany, S14VectorValue, S15TooManySaves, S16NoSave, S17LateWatch, S18NameDefined, S19TooManyVariables, F1BadFault, F2TooLong}
 
 -- words with the number of a line: `<words><line>: `
 abbrev pub numbered_of : List ℕ → ℕ → List ℕ
@@ -55,6 +55,8 @@ text_of S14VectorValue = codes "S14 VectorValue"
 text_of S15TooManySaves = codes "S15 TooManySaves"
 text_of S16NoSave = codes "S16 NoSave"
 text_of S17LateWatch = codes "S17 LateWatch"
+text_of S18NameDefined = codes "S18 NameDefined"
+text_of S19TooManyVariables = codes "S19 TooManyVariables"
 text_of F1BadFault = codes "F1 BadFault"
 text_of F2TooLong = codes "F2 TooLong"
 

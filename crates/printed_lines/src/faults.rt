@@ -11,7 +11,7 @@ pub const FAULT_LINE_ROOM: usize = 120;
 const PLACE_ROOM: usize = 34;
 
 // The most bytes of the text of a fault.
-const TEXT_ROOM: usize = 18;
+const TEXT_ROOM: usize = 20;
 
 /// Where a fault was met.
 #[derive(Clone, Copy, PartialEq, Eq)]
@@ -102,6 +102,10 @@ pub enum FaultCode {
     S16NoSave,
     /// In a dump a word is watched behind the first step, phase or cycle.
     S17LateWatch,
+    /// A `let` is of a name that is defined, or is a variable by an earlier line or its own formula.
+    S18NameDefined,
+    /// A line's names would bring the variables past 4,096.
+    S19TooManyVariables,
     /// A line of the list isn't two words that name a fault.
     F1BadFault,
     /// A list goes past 67,108,864 bytes.
@@ -149,6 +153,8 @@ impl FaultCode {
             FaultCode::S15TooManySaves => b"S15 TooManySaves",
             FaultCode::S16NoSave => b"S16 NoSave",
             FaultCode::S17LateWatch => b"S17 LateWatch",
+            FaultCode::S18NameDefined => b"S18 NameDefined",
+            FaultCode::S19TooManyVariables => b"S19 TooManyVariables",
             FaultCode::F1BadFault => b"F1 BadFault",
             FaultCode::F2TooLong => b"F2 TooLong",
         }

@@ -24,12 +24,15 @@ pub use faults::{FAULT_LINE_ROOM, FaultCode, FaultPlace, fault_line};
 pub use laws::limits_are_as_stated;
 pub use line_buf::LineBuf;
 pub use lines::{
-    CHECK_LINE_ROOM, COLUMN_ROOM, EXPECT_LINE_ROOM, GROUP_START_ROOM, MOST_VALUES,
-    REPORT_LINE_ROOM, SHOW_LINE_ROOM, SUMMARY_LINE_ROOM, Summary, WAVE_LINE_ROOM, check_line,
-    column_start, expect_line, group_name, group_start, line_end, report_line, show_line,
-    summary_line, wave_line,
+    CHECK_LINE_ROOM, COLUMN_ROOM, EXPECT_LINE_ROOM, GROUP_START_ROOM, MOST_VALUES, NUMBER_ROOM,
+    REPORT_LINE_ROOM, SHOW_LINE_ROOM, SUMMARY_LINE_ROOM, Summary, WAVE_LINE_ROOM, append_number,
+    check_line, column_start, expect_line, group_name, group_start, line_end, report_line,
+    show_line, summary_line, wave_line,
 };
-pub use looks::{LOOK_LINE_ROOM, NodeSort, SwitchTold, end_line, gate_line, look_line};
+pub use looks::{
+    LOOK_LINE_ROOM, NodeSort, SwitchTold, append_kind, append_sort, append_state, end_line,
+    gate_line, look_line,
+};
 pub use verdicts::{
     FAULTS_LINE_ROOM, VERDICT_LINE_ROOM, detected_line, faults_line, possible_line, refused_line,
     undetected_line,

@@ -63,7 +63,7 @@ impl LineBuf {
     }
 
     /// Adds one byte.
-    pub(crate) fn push(&mut self, byte: u8)
+    pub fn push(&mut self, byte: u8)
         requires room { 1 ≤ self.old.spare }
         ensures bytes { self.new.bytes ≡ self.old.bytes ++ byte ∷ [] }
         ensures spare { self.new.spare + 1 ≡ self.old.spare }
@@ -72,7 +72,7 @@ impl LineBuf {
     }
 
     /// Adds these bytes.
-    pub(crate) fn append(&mut self, piece: &[u8])
+    pub fn append(&mut self, piece: &[u8])
         requires room { length piece.now ≤ self.old.spare }
         ensures bytes { self.new.bytes ≡ self.old.bytes ++ piece.now }
         ensures spare { self.new.spare + length piece.now ≡ self.old.spare }

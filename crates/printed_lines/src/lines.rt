@@ -55,8 +55,8 @@ pub const GROUP_START_ROOM: usize = 300;
 /// Room for any summary line.
 pub const SUMMARY_LINE_ROOM: usize = 300;
 
-/// The most digits of a number.
-pub(crate) const NUMBER_ROOM: usize = 20;
+/// Room for any number.
+pub const NUMBER_ROOM: usize = 20;
 
 /// Appends the summary line `large nodes <nodes> switches <switches> lines <lines> steps <steps> marks
 /// <marks> zeros <zeros> ones <ones> unknown <unknown>` and LF.
@@ -264,7 +264,7 @@ pub(crate) fn append_count(out: &mut LineBuf, text: &[u8], n: u64)
 }
 
 /// Appends a number as a decimal without leading zeros.
-pub(crate) fn append_number(out: &mut LineBuf, n: u64)
+pub fn append_number(out: &mut LineBuf, n: u64)
     requires room { NUMBER_ROOM ≤ out.old.spare }
     ensures bytes { out.new.bytes ≡ out.old.bytes ++ decimal n }
     ensures spare { out.new.spare + length (decimal n) ≡ out.old.spare }

@@ -143,8 +143,8 @@ fn append_switch(out: &mut LineBuf, switch: SwitchTold)
     append_state(out, switch.state);
 }
 
-// Appends the letter of a kind.
-fn append_kind(out: &mut LineBuf, kind: SwitchKind)
+/// Appends the letter of a kind.
+pub fn append_kind(out: &mut LineBuf, kind: SwitchKind)
     requires room { 1 ≤ out.old.spare }
     ensures bytes { out.new.bytes ≡ out.old.bytes ++ spec.kind_text kind }
     ensures spare { out.new.spare + 1 ≡ out.old.spare }
@@ -157,8 +157,8 @@ fn append_kind(out: &mut LineBuf, kind: SwitchKind)
     }
 }
 
-// Appends what a switch does.
-fn append_state(out: &mut LineBuf, state: SwitchState)
+/// Appends what a switch does.
+pub fn append_state(out: &mut LineBuf, state: SwitchState)
     requires room { 7 ≤ out.old.spare }
     ensures bytes { out.new.bytes ≡ out.old.bytes ++ spec.switch_state_text state }
     ensures spare { out.new.spare + length (spec.switch_state_text state) ≡ out.old.spare }
@@ -171,8 +171,8 @@ fn append_state(out: &mut LineBuf, state: SwitchState)
     }
 }
 
-// Appends what a node is.
-fn append_sort(out: &mut LineBuf, sort: NodeSort)
+/// Appends what a node is.
+pub fn append_sort(out: &mut LineBuf, sort: NodeSort)
     requires room { 25 ≤ out.old.spare }
     ensures bytes { out.new.bytes ≡ out.old.bytes ++ spec.sort_text sort }
     ensures spare { out.new.spare + length (spec.sort_text sort) ≡ out.old.spare }

@@ -28,7 +28,7 @@ pub fn script_word<'a>(
         FaultCode::E3Rail => name_of_sort(line, names, NodeSort::Rail),
         FaultCode::E4BadStrength | FaultCode::E5BadSize => last_word(line),
         FaultCode::S4BadValue => bad_value(line, names, columns),
-        FaultCode::S12NameTaken => word_behind(line, 1),
+        FaultCode::S12NameTaken | FaultCode::S18NameDefined => word_behind(line, 1),
         FaultCode::S14VectorValue => vector_value(line, names),
         FaultCode::S5BadNumber => bad_number(line),
         FaultCode::S6NotInput => name_of_sort(line, names, NodeSort::Storage),

@@ -24,6 +24,6 @@ mod status;
 mod stop;
 
 pub use notes::{cure_text, note_cure};
-pub use refusal::{refuse, refuse_size};
+pub use refusal::{refuse, refuse_named, refuse_size};
 pub use status::Status;
 pub use stop::{End, Stop};

@@ -33,8 +33,9 @@ pub fn refuse<S: Sink>(
     refuse_named(alloc, place, code, b"", 0, word, end, out)
 }
 
-// Writes the line of a refusal that tells of a node by its name, and a count, and notes the cure with this word.
-fn refuse_named<S: Sink>(
+/// Writes the line of a refusal that tells of a node by its name, and a count, and ends the run so. The cure is noted besides, with
+/// this word.
+pub fn refuse_named<S: Sink>(
     alloc: Global,
     place: FaultPlace,
     code: FaultCode,

@@ -20,10 +20,12 @@ pub enum Status {
     WriteFault,
     /// Memory ran out.
     NoMemory,
+    /// A run under all valuations wanted one vertex more than there may be.
+    Full,
 }
 
 impl Status {
-    /// The exit status of the program: 0 to 7, in the order of the cases.
+    /// The exit status of the program: 0 to 8, in the order of the cases.
     pub fn code(self) -> u8
         ensures { result ≡ code_of self }
     {

@@ -5,43 +5,43 @@ use Rattle.told_lines.specs.Lines.{Line, Told}
 use Rattle.told_lines.specs.Hearing.{hear_all, HearsPart, Hears, SoFar, HearsFront, of_column, row_from}
 
 -- a front and the rest are heard one after the other
-pub hear_all-append : {H : Type 0} (hear : H → Told → H) (before : H) (front rest : List Told) →
+pub hear_all-append : {H A : Type 0} (hear : H → A → H) (before : H) (front rest : List A) →
     hear_all hear before (front ++ rest) ≡ hear_all hear (hear_all hear before front) rest
 hear_all-append hear before [] rest = refl
 hear_all-append hear before (line ∷ front) rest = hear_all-append hear (hear before line) front rest
 
 -- one line was heard, or a part of it
-pub one_heard : {H E : Type 0} (hear : H → Told → H) (part : H → Told → H → Type 0) (before after : H) (line : Told) (result : Result (Unit {0}) E) →
+pub one_heard : {H A E : Type 0} (hear : H → A → H) (part : H → A → H → Type 0) (before after : H) (line : A) (result : Result (Unit {0}) E) →
     OnOk result (after ≡ hear before line) → OnErr result (part before line after) → Hears hear part before after (line ∷ []) result
 one_heard hear part before after line (Ok _) ok err = ok
 one_heard hear part before after line (Err fault) ok err = record { front = []; next = line; rest = []; split = refl; heard = err }
 
 -- none was heard yet
-pub so_far-start : {H : Type 0} (hear : H → Told → H) (start : H) (all : List Told) → SoFar hear start start all all
+pub so_far-start : {H A : Type 0} (hear : H → A → H) (start : H) (all : List A) → SoFar hear start start all all
 so_far-start hear start all = record { done = []; split = refl; heard = refl }
 
 -- a piece more was heard
-pub so_far-more : {H : Type 0} (hear : H → Told → H) (start now after : H) (all left piece rest : List Told) → left ≡ piece ++ rest →
+pub so_far-more : {H A : Type 0} (hear : H → A → H) (start now after : H) (all left piece rest : List A) → left ≡ piece ++ rest →
     SoFar hear start now all left → after ≡ hear_all hear now piece → SoFar hear start after all rest
-so_far-more hear start now after all left piece rest parted before heard = record {
+so_far-more {A = A} hear start now after all left piece rest parted before heard = record {
   done = before.done ++ piece;
-  split = before.split ∙ ap (λ (lines : List Told). before.done ++ lines) parted ∙ sym (append_assoc before.done piece rest);
+  split = before.split ∙ ap (λ (lines : List A). before.done ++ lines) parted ∙ sym (append_assoc before.done piece rest);
   heard = heard ∙ ap (λ h. hear_all hear h piece) before.heard ∙ sym (hear_all-append hear start before.done piece);
 }
 
 -- all was heard
-pub so_far-end : {H : Type 0} (hear : H → Told → H) (start now : H) (all : List Told) → SoFar hear start now all [] → now ≡ hear_all hear start all
-so_far-end hear start now all before =
-    before.heard ∙ ap (λ (lines : List Told). hear_all hear start lines) (sym (append-nil before.done) ∙ sym before.split)
+pub so_far-end : {H A : Type 0} (hear : H → A → H) (start now : H) (all : List A) → SoFar hear start now all [] → now ≡ hear_all hear start all
+so_far-end {A = A} hear start now all before =
+    before.heard ∙ ap (λ (lines : List A). hear_all hear start lines) (sym (append-nil before.done) ∙ sym before.split)
 
 -- of a piece more a part was heard
-pub so_far-stopped : {H : Type 0} (hear : H → Told → H) (part : H → Told → H → Type 0) (start now after : H) (all left piece rest : List Told) →
+pub so_far-stopped : {H A : Type 0} (hear : H → A → H) (part : H → A → H → Type 0) (start now after : H) (all left piece rest : List A) →
     left ≡ piece ++ rest → SoFar hear start now all left → HearsPart hear part now after piece → HearsPart hear part start after all
-so_far-stopped hear part start now after all left piece rest parted before stopped = record {
+so_far-stopped {A = A} hear part start now after all left piece rest parted before stopped = record {
   front = before.done ++ stopped.front;
   next = stopped.next;
   rest = stopped.rest ++ rest;
-  split = before.split ∙ ap (λ (lines : List Told). before.done ++ lines) (parted ∙ ap (λ (lines : List Told). lines ++ rest) stopped.split
+  split = before.split ∙ ap (λ (lines : List A). before.done ++ lines) (parted ∙ ap (λ (lines : List A). lines ++ rest) stopped.split
       ∙ append_assoc stopped.front (stopped.next ∷ stopped.rest) rest)
       ∙ sym (append_assoc before.done stopped.front (stopped.next ∷ (stopped.rest ++ rest)));
   heard = subst (λ h. part h stopped.next after)
@@ -49,12 +49,12 @@ so_far-stopped hear part start now after all left piece rest parted before stopp
 }
 
 -- of a piece more a front was heard, and perhaps a part of its next line
-pub so_far-front : {H : Type 0} (hear : H → Told → H) (part : H → Told → H → Type 0) (start now after : H) (all left piece rest : List Told) →
+pub so_far-front : {H A : Type 0} (hear : H → A → H) (part : H → A → H → Type 0) (start now after : H) (all left piece rest : List A) →
     left ≡ piece ++ rest → SoFar hear start now all left → HearsFront hear part now after piece → HearsFront hear part start after all
-so_far-front hear part start now after all left piece rest parted before (inl (more, heard)) = inl (
+so_far-front {A = A} hear part start now after all left piece rest parted before (inl (more, heard)) = inl (
   more ++ rest,
   so_far-more hear start now after all left heard.done (more ++ rest)
-      (parted ∙ ap (λ (lines : List Told). lines ++ rest) heard.split ∙ append_assoc heard.done more rest) before heard.heard,
+      (parted ∙ ap (λ (lines : List A). lines ++ rest) heard.split ∙ append_assoc heard.done more rest) before heard.heard,
 )
 so_far-front hear part start now after all left piece rest parted before (inr stopped) =
     inr (so_far-stopped hear part start now after all left piece rest parted before stopped)
