@@ -1,9 +1,10 @@
 -- The names of a script: how a table of them is looked up and grows, that variables are only added by what lines use, and which lines are refused.
-use Rattle.std.proofs.Common.{◌≡◌, ℕ, ◌+◌, ◌<◌, ◌≤◌, Bool, true, false, ◌||◌, List, [], ◌∷◌, ◌++◌, length, take, nat_lt, bytes_eq, Option, Some, None, Vec, inl, inr, refl, sym, ap, ◌∙◌, subst, arith, length-append, if◌then◌else◌}
+use Rattle.std.proofs.Common.{◌≡◌, ℕ, ◌+◌, ◌<◌, ◌≤◌, Bool, true, false, ◌||◌, List, [], ◌∷◌, ◌++◌, length, take, slice_get, nat_lt, bytes_eq, Option, Some, None, option_map, Vec, inl, inr, refl, sym, ap, ◌∙◌, subst, arith, length-append, if◌then◌else◌}
 use Rattle.std.specs.List.{list_any}
 use Rattle.std.specs.declared.alloc.Global.{Global}
 use Rattle.std.proofs.lemmas.Bool.{cases_Bool, lt-ltb, ltb-true, ltb-false, or_cases}
-use Rattle.std.proofs.lemmas.List.{map-append, take-append-le, take-map, take-take, take_all, length-map}
+use Rattle.std.proofs.lemmas.List.{map-append, take-append-le, take-map, take-take, take_all, take_more, length-map}
+use Rattle.std.proofs.lemmas.Option.{get_or_from_slice_get, slice_get-map, slice_get_within}
 use Rattle.std.proofs.lemmas.List.Folds.{list_any-append}
 use Rattle.std.proofs.lemmas.Slice.Eq.{bytes_eq-Decides}
 use Rattle.indexmap.specs.IndexSet.{insert_key}
@@ -26,6 +27,15 @@ keys_of_inserted keys name absent =
 -- the names of a front of the table, and how many there are
 pub keys_of_take : (n : ℕ) (keys : List (Vec ℕ Global)) → keys_of (take n keys) ≡ take n (keys_of keys)
 keys_of_take n keys = sym (take-map (λ (key : Vec ℕ Global). key.items) n keys)
+
+-- those before a place and the one there are one more
+pub keys_of_next : (keys : List (Vec ℕ Global)) (place : ℕ) (key : Vec ℕ Global) → Some key ≡ slice_get keys place →
+    take (place + 1) (keys_of keys) ≡ take place (keys_of keys) ++ key.items ∷ []
+keys_of_next keys place key seen =
+    let stands : slice_get (keys_of keys) place ≡ Some key.items =
+    slice_get-map (λ (own : Vec ℕ Global). own.items) keys place ∙ ap (option_map (λ (own : Vec ℕ Global). own.items)) (sym seen) in
+    take_more (keys_of keys) place [] (slice_get_within (keys_of keys) place key.items stands)
+    ∙ ap (λ (name : List ℕ). take place (keys_of keys) ++ name ∷ []) (get_or_from_slice_get (keys_of keys) place key.items [] stands)
 
 pub length_keys : (keys : List (Vec ℕ Global)) → length (keys_of keys) ≡ length keys
 length_keys keys = length-map keys (λ (key : Vec ℕ Global). key.items)

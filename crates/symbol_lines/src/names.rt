@@ -6,7 +6,7 @@ ghost use Rattle.symbol_lines.specs.Names as spec;
 
 use crate::MOST_VARIABLES;
 use indexmap::IndexSet;
-use script_lang::Name;
+use script_lang::{Name, NameList};
 use std::alloc::Global;
 use std::marker::Model;
 use table_keys::TableKeys;
@@ -70,6 +70,13 @@ impl ScriptNames {
         ensures { result ≡ length self.now.variables }
     {
         self.variables.len()
+    }
+
+    /// The names of the variables, in order.
+    pub fn variable_names(&self, alloc: Global) -> Result<NameList, NoMemory>
+        ensures { IfOk result (λ list. list ≡ self.now.variables) }
+    {
+        names_in(alloc, &self.variables)
     }
 
     /// Takes a line that uses these names, from left to right, and perhaps defines one.
@@ -192,6 +199,22 @@ impl ScriptNames {
     {
         has_key(&self.defined, name) || has_key(&self.variables, name)
     }
+}
+
+// The names of a table, in order.
+#[tactic(auto, using(crate::proofs::NameLemmas::length_keys))]
+fn names_in(alloc: Global, table: &IndexSet<Vec<u8>, TableKeys>) -> Result<NameList, NoMemory>
+    ensures { IfOk result (λ list. list ≡ spec.keys_of table.now.keys) }
+{
+    let mut list = NameList::new(alloc);
+    for place in 0..table.len() {
+        let Some(key) = table.get_index(place) else {
+            unreachable!()
+        };
+        let name = Name::from_slice(alloc, key)?;
+        list.push(name)?;
+    }
+    Ok(list)
 }
 
 // Whether a table has a name.

@@ -1,0 +1,6 @@
+-- The names so far are there.
+use Rattle.std.proofs.Common.{◌≡◌, ◌++◌, take}
+use Rattle.symbol_reading.proofs.naming.put_names.Given as goal
+
+abbrev pub invariant-loop-name : goal.invariant-loop-name
+invariant-loop-name l = l.names ≡ l.fn.names ++ take l.name-index l.list

@@ -1,0 +1,3 @@
+pub mod ValuationLemmas
+pub mod PrintingLemmas
+pub mod NotingLemmas

@@ -1,0 +1,6 @@
+pub mod Lines
+pub mod Valuations
+pub mod Printing
+pub mod Noting
+pub mod Differences
+pub mod Laws
