@@ -1,0 +1,5 @@
+pub mod Rails
+pub mod Notes
+pub mod Words
+pub mod Workspaces
+pub mod Told

@@ -1,0 +1,5 @@
+pub mod RunLemmas
+pub mod AlikeLemmas
+pub mod AnswerLemmas
+pub mod NamedLemmas
+pub mod ServingLemmas

@@ -1,0 +1,4 @@
+pub mod Turns
+pub mod Halts
+pub mod Answers
+pub mod Serving
