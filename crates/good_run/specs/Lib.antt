@@ -1,4 +1,5 @@
 pub mod Recording
 pub mod Looks
 pub mod Laws
+pub mod Keeping
 pub mod Words

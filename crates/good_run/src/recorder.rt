@@ -7,6 +7,7 @@ ghost use Rattle.machine_parts.specs.Words.{AreAgreed, IsTaken};
 ghost use Rattle.settling.specs.Moved.{ListsChanges};
 ghost use Rattle.good_run.specs.Words.{RunData, count_apart, look_at, without_look, state_before, begins_at, rest_in, IsEmpty, NotesChanges, TakesNode};
 ghost use Rattle.good_run.specs.Looks.{between, from_of, HasMore};
+ghost use Rattle.good_run.specs.Keeping.{KeepsRecord};
 
 use crate::look::Look;
 use part_words::Change;
@@ -95,6 +96,25 @@ impl Recorder {
         let from = end_before(&self.looks, at);
         let end = end_of(&self.looks, at);
         part_of(&self.changes, from, end)
+    }
+
+    /// How many changes were noted.
+    pub fn change_count(&self) -> usize {
+        self.changes.len()
+    }
+
+    /// Takes room for so many changes more. What was noted stays, out of memory too.
+    pub fn reserve_changes(&mut self, count: usize) -> Result<(), AllocError>
+        ensures { KeepsRecord self.old self.new }
+    {
+        self.changes.reserve(count)
+    }
+
+    /// Takes room for so many states more. What was noted stays, out of memory too.
+    pub fn reserve_states(&mut self, count: usize) -> Result<(), AllocError>
+        ensures { KeepsRecord self.old self.new }
+    {
+        self.looks.reserve(count)
     }
 
     // Notes a state, if there is room.

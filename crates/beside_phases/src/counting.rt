@@ -1,0 +1,415 @@
+//! A phase of the run under a fault beside the good run's, whose steps are counted and shown.
+ghost use Rattle.std.specs.Prelude.{◌≡◌, ◌≢◌, ℕ, ◌+◌, ◌-◌, ◌^◌, ◌<◌, ◌≤◌, [], List, length, not, nat_lt, Contains};
+ghost use Rattle.std.specs.Bool.{OnTrue, OnFalse};
+ghost use Rattle.ternary.specs.declared.tern.Tern.{Tern};
+ghost use Rattle.switch_paths.specs.Switching.{state_at};
+ghost use Rattle.settling.specs.Moved.{ListsChanges};
+ghost use Rattle.part_words.specs.declared.change.Change.{Change};
+ghost use Rattle.machine_parts.specs.Words.{AreAgreed, IsMarked, IsTaken};
+ghost use Rattle.good_run.specs.Words.{state_before};
+ghost use Rattle.run_beside.specs.Words.{IsReplacement};
+ghost use Rattle.unit_step.specs.Beside.{AdvancesBeside, KeepsPartsApart};
+ghost use Rattle.unit_step.specs.Listing.{nodes_told};
+ghost use Rattle.beside.specs.Fitting.{FitsBeside};
+ghost use Rattle.beside.specs.Phases.{IsPhaseOf};
+ghost use Rattle.beside_phases.specs.Counting.{ComesToRest, CountsBeside, FollowsOne, SettlesSeen, SomeFollows};
+
+use good_run::Recorder;
+use part_words::Change;
+use settling::{Onlooker, Settled, unfailing};
+use std::sync::ledger::Ledger;
+use switch_paths::{Graph, graphs_are_wired};
+use ternary::{Steps, Tern};
+use unit_step::{Machine, Watched};
+use vicinity::NodeSet;
+
+/// Settles the run under a fault beside the good run's phase, whose steps are those of the record from one place up to another; counts
+/// the steps that change the state under the fault, and shows the state behind each of them.
+///
+/// Both runs take as many replacements as the longer one wants, plain ones up to the limit and then joining ones: a run that is
+/// at rest stays. It takes no memory, but works in a list of as many states as there are nodes.
+///
+/// After Bryant and Schuster, "Performance Evaluation of FMOSSIM, a Concurrent Switch-Level Fault
+/// Simulator", 1985.
+pub fn settle_counted<O: Onlooker, L: Ledger>(
+    machine: &mut Machine,
+    good_graph: &Graph,
+    graph: &Graph,
+    run: &Recorder,
+    first: usize,
+    end: usize,
+    limit: u64,
+    good: &mut [Tern],
+    apart: &mut NodeSet,
+    before: &mut [Tern],
+    steps: &mut Steps<L>,
+    onlooker: &mut O,
+) -> Settled
+    requires fits { FitsBeside good_graph.now graph.now good.old apart.old.inside machine.old }
+    requires phase { IsPhaseOf good_graph.now limit run.now first end }
+    requires begins { good.old ≡ state_before run.now first }
+    requires few { (end - first) + limit + length machine.old.state < 2 ^ 62 }
+    requires room { length before.old ≡ length machine.old.state }
+    requires knows { O.knows onlooker.old machine.old.state }
+    ensures settles { SettlesSeen O.see good_graph.now graph.now limit result.steps result.joined machine.old machine.new good.new apart.new.inside (O.seen onlooker.old) (O.seen onlooker.new) }
+    ensures ends { good.new ≡ state_before run.now end }
+    ensures room { length before.new ≡ length before.old }
+    ensures knows { O.knows onlooker.new machine.new.state }
+{
+    let moved = replay(
+        machine, good_graph, graph, run, first, end, limit, good, apart, before, steps, onlooker,
+    );
+    let all = looks_between(first, end);
+    let count = rest_or_go_on(
+        machine, good_graph, graph, moved, all, limit, good, apart, before, steps, onlooker,
+    );
+    settled(count, limit)
+}
+
+// How many looks of a record stand between these places.
+fn looks_between(first: usize, end: usize) -> u64
+    requires { first ≤ end }
+    ensures { result ≡ end - first }
+{
+    (end - first) as u64
+}
+
+/// What is told of a phase in which so many steps changed something.
+pub fn settled(steps: u64, limit: u64) -> Settled
+    ensures steps { result.steps ≡ steps }
+    ensures joined { result.joined ≡ nat_lt limit steps }
+{
+    Settled {
+        steps,
+        joined: limit < steps,
+    }
+}
+
+// Takes the steps of the good run's phase in both runs, and answers how many of them changed the state under the fault.
+fn replay<O: Onlooker, L: Ledger>(
+    machine: &mut Machine,
+    good_graph: &Graph,
+    graph: &Graph,
+    run: &Recorder,
+    first: usize,
+    end: usize,
+    limit: u64,
+    good: &mut [Tern],
+    apart: &mut NodeSet,
+    before: &mut [Tern],
+    steps: &mut Steps<L>,
+    onlooker: &mut O,
+) -> u64
+    requires fits { FitsBeside good_graph.now graph.now good.old apart.old.inside machine.old }
+    requires phase { IsPhaseOf good_graph.now limit run.now first end }
+    requires begins { good.old ≡ state_before run.now first }
+    requires room { length before.old ≡ length machine.old.state }
+    requires knows { O.knows onlooker.old machine.old.state }
+    ensures counts { CountsBeside O.see good_graph.now graph.now limit (end - first) result machine.old machine.new good.new apart.new.inside (O.seen onlooker.old) (O.seen onlooker.new) }
+    ensures ends { good.new ≡ state_before run.now end }
+    ensures room { length before.new ≡ length before.old }
+    ensures knows { O.knows onlooker.new machine.new.state }
+{
+    graphs_are_wired(good_graph);
+    graphs_are_wired(graph);
+    let mut moved: usize = 0;
+    for at in first..end {
+        let joining = is_joining(looks_between(first, at), limit);
+        let changes = run.changes_at(at);
+        let changed = step_seen(
+            machine, joining, changes, good, apart, before, steps, onlooker,
+        );
+        moved = one_more_if(moved, changed, end);
+    }
+    moved as u64
+}
+
+// One step more, if it changed something.
+fn one_more_if(moved: usize, changed: bool, end: usize) -> usize
+    requires { moved < end }
+    ensures yes { OnTrue changed (result ≡ moved + 1) }
+    ensures no { OnFalse changed (result ≡ moved) }
+{
+    if changed {
+        return moved + 1;
+    }
+    moved
+}
+
+/// Whether a replacement with this number is a joining one.
+pub fn is_joining(count: u64, limit: u64) -> bool
+    ensures { result ≡ not (nat_lt count limit) }
+{
+    count >= limit
+}
+
+// Goes on beside a good run that is at its end, if each of all replacements changed something, and answers how many did.
+fn rest_or_go_on<O: Onlooker, L: Ledger>(
+    machine: &mut Machine,
+    good_graph: &Graph,
+    graph: &Graph,
+    moved: u64,
+    all: u64,
+    limit: u64,
+    good: &mut [Tern],
+    apart: &mut NodeSet,
+    before: &mut [Tern],
+    steps: &mut Steps<L>,
+    onlooker: &mut O,
+) -> u64
+    requires fits { FitsBeside good_graph.now graph.now good.old apart.old.inside machine.old }
+    requires most { moved ≤ all }
+    requires rests { moved < all → IsReplacement graph.now limit moved machine.old.state machine.old.state }
+    requires stays { (n : ℕ) → all ≤ n → IsReplacement good_graph.now limit n good.old good.old }
+    requires few { all + limit + length machine.old.state < 2 ^ 62 }
+    requires room { length before.old ≡ length machine.old.state }
+    requires knows { O.knows onlooker.old machine.old.state }
+    ensures rests { ComesToRest O.see good_graph.now graph.now limit moved result machine.old machine.new good.new apart.new.inside (O.seen onlooker.old) (O.seen onlooker.new) }
+    ensures good { good.new ≡ good.old }
+    ensures room { length before.new ≡ length before.old }
+    ensures knows { O.knows onlooker.new machine.new.state }
+{
+    if moved < all {
+        return moved;
+    }
+    go_on(
+        machine, good_graph, graph, moved, limit, good, apart, before, steps, onlooker,
+    )
+}
+
+// Takes steps while they change something, beside a good run that is at its end, plain ones up to the limit and then joining ones, once
+// so many were taken, and answers how many there are then.
+fn go_on<O: Onlooker, L: Ledger>(
+    machine: &mut Machine,
+    good_graph: &Graph,
+    graph: &Graph,
+    taken: u64,
+    limit: u64,
+    good: &mut [Tern],
+    apart: &mut NodeSet,
+    before: &mut [Tern],
+    steps: &mut Steps<L>,
+    onlooker: &mut O,
+) -> u64
+    requires fits { FitsBeside good_graph.now graph.now good.old apart.old.inside machine.old }
+    requires stays { (n : ℕ) → taken ≤ n → IsReplacement good_graph.now limit n good.old good.old }
+    requires few { taken + limit + length machine.old.state < 2 ^ 62 }
+    requires room { length before.old ≡ length machine.old.state }
+    requires knows { O.knows onlooker.old machine.old.state }
+    ensures rests { ComesToRest O.see good_graph.now graph.now limit taken result machine.old machine.new good.new apart.new.inside (O.seen onlooker.old) (O.seen onlooker.new) }
+    ensures good { good.new ≡ good.old }
+    ensures room { length before.new ≡ length before.old }
+    ensures knows { O.knows onlooker.new machine.new.state }
+{
+    graphs_are_wired(good_graph);
+    graphs_are_wired(graph);
+    let mut count = taken;
+    while step_seen(
+        machine,
+        is_joining(count, limit),
+        &[],
+        good,
+        apart,
+        before,
+        steps,
+        onlooker,
+    ) {
+        count += 1;
+    }
+    count
+}
+
+// Takes a step beside the good run's, and shows the state behind it if it changed under the fault; answers whether it did.
+fn step_seen<O: Onlooker, L: Ledger>(
+    machine: &mut Machine,
+    joining: bool,
+    changes: &[Change],
+    good: &mut [Tern],
+    apart: &mut NodeSet,
+    before: &mut [Tern],
+    steps: &mut Steps<L>,
+    onlooker: &mut O,
+) -> bool
+    requires counted { length good.old ≡ length machine.old.state }
+    requires inside { (change : Change) → Contains changes.now change → change.node < length good.old }
+    requires agreed { AreAgreed changes.now }
+    requires apart { length apart.old.inside ≡ length machine.old.parts }
+    requires marked { (k : ℕ) → IsMarked machine.old.marks k → IsMarked apart.old.inside k }
+    requires kept { KeepsPartsApart machine.old.parts apart.old.inside good.old machine.old.state }
+    requires room { length before.old ≡ length machine.old.state }
+    requires knows { O.knows onlooker.old machine.old.state }
+    ensures good { IsTaken changes.now good.old good.new }
+    ensures advances { AdvancesBeside joining changes.now apart.old.inside apart.new.inside machine.old machine.new }
+    ensures kept { KeepsPartsApart machine.new.parts apart.new.inside good.new machine.new.state }
+    ensures changed { OnTrue result (machine.new.state ≢ machine.old.state) }
+    ensures same { OnFalse result (machine.new.state ≡ machine.old.state) }
+    ensures seen { OnTrue result (O.seen onlooker.new ≡ O.see (O.seen onlooker.old) machine.new.state) }
+    ensures unseen { OnFalse result (O.seen onlooker.new ≡ O.seen onlooker.old) }
+    ensures room { length before.new ≡ length before.old }
+    ensures knows { O.knows onlooker.new machine.new.state }
+{
+    if !step_counted(machine, joining, changes, good, apart, before, steps) {
+        return false;
+    }
+    let mut changed = None;
+    show(machine, &mut changed, onlooker);
+    true
+}
+
+/// Shows the machine's state, which differs at listed nodes alone from one that is known.
+pub fn show<O: Onlooker>(machine: &mut Machine, changed: &mut Option<Vec<usize>>, onlooker: &mut O)
+    requires { (old : List Tern) × O.knows onlooker.old old × ListsChanges (nodes_told changed.old (length machine.old.state)) old machine.old.state }
+    ensures same { machine.new ≡ machine.old }
+    ensures seen { O.seen onlooker.new ≡ O.see (O.seen onlooker.old) machine.old.state }
+    ensures knows { O.knows onlooker.new machine.old.state }
+{
+    unfailing(onlooker.see(&Watched { machine, changed }));
+}
+
+// Takes a step beside the good run's, and answers whether it changed the state under the fault.
+fn step_counted<L: Ledger>(
+    machine: &mut Machine,
+    joining: bool,
+    changes: &[Change],
+    good: &mut [Tern],
+    apart: &mut NodeSet,
+    before: &mut [Tern],
+    steps: &mut Steps<L>,
+) -> bool
+    requires counted { length good.old ≡ length machine.old.state }
+    requires inside { (change : Change) → Contains changes.now change → change.node < length good.old }
+    requires agreed { AreAgreed changes.now }
+    requires apart { length apart.old.inside ≡ length machine.old.parts }
+    requires marked { (k : ℕ) → IsMarked machine.old.marks k → IsMarked apart.old.inside k }
+    requires kept { KeepsPartsApart machine.old.parts apart.old.inside good.old machine.old.state }
+    requires room { length before.old ≡ length machine.old.state }
+    ensures good { IsTaken changes.now good.old good.new }
+    ensures advances { AdvancesBeside joining changes.now apart.old.inside apart.new.inside machine.old machine.new }
+    ensures kept { KeepsPartsApart machine.new.parts apart.new.inside good.new machine.new.state }
+    ensures changed { OnTrue result (machine.new.state ≢ machine.old.state) }
+    ensures same { OnFalse result (machine.new.state ≡ machine.old.state) }
+    ensures room { length before.new ≡ length before.old }
+{
+    if some_follows(machine, changes, good, apart) {
+        return step_following(machine, joining, changes, good, apart, steps);
+    }
+    step_compared(machine, joining, changes, good, apart, before, steps)
+}
+
+// Takes a step beside the good run's in which a node follows that changes: so the state under the fault changes.
+fn step_following<L: Ledger>(
+    machine: &mut Machine,
+    joining: bool,
+    changes: &[Change],
+    good: &mut [Tern],
+    apart: &mut NodeSet,
+    steps: &mut Steps<L>,
+) -> bool
+    requires counted { length good.old ≡ length machine.old.state }
+    requires inside { (change : Change) → Contains changes.now change → change.node < length good.old }
+    requires agreed { AreAgreed changes.now }
+    requires apart { length apart.old.inside ≡ length machine.old.parts }
+    requires marked { (k : ℕ) → IsMarked machine.old.marks k → IsMarked apart.old.inside k }
+    requires kept { KeepsPartsApart machine.old.parts apart.old.inside good.old machine.old.state }
+    requires some { SomeFollows changes.now machine.old.parts apart.old.inside good.old }
+    ensures good { IsTaken changes.now good.old good.new }
+    ensures advances { AdvancesBeside joining changes.now apart.old.inside apart.new.inside machine.old machine.new }
+    ensures kept { KeepsPartsApart machine.new.parts apart.new.inside good.new machine.new.state }
+    ensures changed { OnTrue result (machine.new.state ≢ machine.old.state) }
+    ensures same { OnFalse result (machine.new.state ≡ machine.old.state) }
+{
+    let _moved = machine.step_beside(joining, changes, good, apart, steps);
+    true
+}
+
+// Takes a step beside the good run's. If no part that is apart changed a node, the states are compared.
+fn step_compared<L: Ledger>(
+    machine: &mut Machine,
+    joining: bool,
+    changes: &[Change],
+    good: &mut [Tern],
+    apart: &mut NodeSet,
+    before: &mut [Tern],
+    steps: &mut Steps<L>,
+) -> bool
+    requires counted { length good.old ≡ length machine.old.state }
+    requires inside { (change : Change) → Contains changes.now change → change.node < length good.old }
+    requires agreed { AreAgreed changes.now }
+    requires apart { length apart.old.inside ≡ length machine.old.parts }
+    requires marked { (k : ℕ) → IsMarked machine.old.marks k → IsMarked apart.old.inside k }
+    requires kept { KeepsPartsApart machine.old.parts apart.old.inside good.old machine.old.state }
+    requires room { length before.old ≡ length machine.old.state }
+    ensures good { IsTaken changes.now good.old good.new }
+    ensures advances { AdvancesBeside joining changes.now apart.old.inside apart.new.inside machine.old machine.new }
+    ensures kept { KeepsPartsApart machine.new.parts apart.new.inside good.new machine.new.state }
+    ensures changed { OnTrue result (machine.new.state ≢ machine.old.state) }
+    ensures same { OnFalse result (machine.new.state ≡ machine.old.state) }
+    ensures room { length before.new ≡ length before.old }
+{
+    before.copy_from_slice(machine.state());
+    if machine.step_beside(joining, changes, good, apart, steps) {
+        return true;
+    }
+    if has_none(changes) {
+        return false;
+    }
+    differ(machine.state(), before)
+}
+
+// Whether there are no changes.
+fn has_none(changes: &[Change]) -> bool
+    ensures { OnTrue result (changes.now ≡ []) }
+{
+    let count = changes.len();
+    if count == 0 {
+        return true;
+    }
+    false
+}
+
+// Whether two states differ.
+fn differ(one: &[Tern], other: &[Tern]) -> bool
+    ensures changed { OnTrue result (one.now ≢ other.now) }
+    ensures same { OnFalse result (one.now ≡ other.now) }
+{
+    one != other
+}
+
+// Whether a node of these changes follows the good run and changes in it.
+fn some_follows(machine: &Machine, changes: &[Change], good: &[Tern], apart: &NodeSet) -> bool
+    requires inside { (change : Change) → Contains changes.now change → change.node < length good.now }
+    requires counted { length good.now ≡ length machine.now.state }
+    requires apart { length apart.now.inside ≡ length machine.now.parts }
+    ensures { OnTrue result (SomeFollows changes.now machine.now.parts apart.now.inside good.now) }
+{
+    for change in changes {
+        if follows(machine, change, good, apart) {
+            return true;
+        }
+    }
+    false
+}
+
+// Whether the node of a change follows the good run and changes in it.
+fn follows(machine: &Machine, change: &Change, good: &[Tern], apart: &NodeSet) -> bool
+    requires inside { change.now.node < length good.now }
+    requires counted { length good.now ≡ length machine.now.state }
+    requires apart { length apart.now.inside ≡ length machine.now.parts }
+    ensures { OnTrue result (FollowsOne change.now machine.now.parts apart.now.inside good.now) }
+{
+    let Some(k) = machine.owner_at(change.node) else {
+        return false;
+    };
+    if apart.contains(k) {
+        return false;
+    }
+    changes_good(change, good)
+}
+
+// Whether a change gives its node another state than the good run's.
+fn changes_good(change: &Change, good: &[Tern]) -> bool
+    requires { change.now.node < length good.now }
+    ensures { OnTrue result (state_at good.now change.now.node ≢ change.now.value) }
+{
+    good[change.node] != change.value
+}

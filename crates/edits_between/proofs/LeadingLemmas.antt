@@ -1,0 +1,162 @@
+-- What an edit leaves of a machine, and several edits.
+use Rattle.std.proofs.Common.{◌≡◌, ℕ, ◌-◌, ◌++◌, inl, inr, ◌⊎◌, Bool, true, false, List, length, take, replicate, None, Some, refl, sym, ap, subst, ◌∙◌, arith}
+use Rattle.std.specs.Prelude.{IfSome, Option, slice_set}
+use Rattle.std.proofs.Math.Seq.{take-length}
+use Rattle.std.proofs.lemmas.List.{append-nil, length-set, set-get_or, set-set}
+use Rattle.ternary.specs.declared.tern.Tern.TheVariants.{Unk}
+use Rattle.switch_paths.specs.declared.switching.Switch.{Switch}
+use Rattle.switch_paths.specs.Graphs.{GraphData, IsWired, nodes, level_of, place_at}
+use Rattle.group_meaning.specs.Groups.{Group}
+use Rattle.group_rest.specs.Alike.{IsAlike}
+use Rattle.channel_groups.specs.declared.change.Change.{Change}
+use Rattle.channel_groups.specs.Changes.{undo}
+use Rattle.machine_laws.specs.Machines.{MachineData}
+use Rattle.machine_laws.specs.Fitting.{Covers}
+use Rattle.machine_laws.specs.Editing.{Edits, is_touched_in}
+use Rattle.machine_laws.proofs.AlikeParts.{alike_groups_keep_their_parts}
+use Rattle.machine_laws.proofs.KeptLemmas.{edits_keep_texts, untouched_alike}
+use Rattle.edits_between.specs.Leading.{CodedAreAlike, IsAsLarge, Led, LedBy, LedIn, last_in}
+
+-- ---- groups that stand alike
+
+alike_then : (f g h : GraphData) (group : Group) → IsAlike f g group → IsAlike g h group → IsAlike f h group
+alike_then f g h group one two = record {
+  here = one.here;
+  there = two.there;
+  places = λ place inside. two.places place inside ∙ one.places place inside;
+  levels = λ node member. two.levels node member ∙ one.levels node member;
+}
+
+alike_back : (g h : GraphData) (group : Group) → IsAlike g h group → IsAlike h g group
+alike_back g h group alike = record {
+  here = alike.there;
+  there = alike.here;
+  places = λ place inside. sym (alike.places place inside);
+  levels = λ node member. sym (alike.levels node member);
+}
+
+touched_or_not : (b : Bool) → (b ≡ true) ⊎ (b ≡ false)
+touched_or_not true = inl refl
+touched_or_not false = inr refl
+
+-- ---- one edit
+
+module _ (g : GraphData) (change : Change) (old new : MachineData) (wired_before : IsWired (undo g change)) (wired : IsWired g)
+    (covers : Covers (undo g change) old) (edits : Edits g change old new) where
+  -- parts that have code are those of groups that the edit didn't touch
+  coded_stays : (base : GraphData) → CodedAreAlike base (undo g change) old → CodedAreAlike base g new
+  coded_stays base alike k part stands coded group is_part =
+      elim (touched_or_not (is_touched_in g change old group)) [
+        | inl touched ↦ absurd (coded (edits.stale k part group stands is_part touched))
+        | inr untouched ↦
+            let here = untouched_alike g change old new wired_before wired covers edits group is_part.is_group untouched in
+            let was_part = alike_groups_keep_their_parts g (undo g change) group part wired wired_before (alike_back (undo g change) g group here) is_part in
+            alike_then base (undo g change) g group (alike k part (edits.stays k part group stands is_part untouched) coded group was_part) here
+      ]
+
+  -- the states stay, if there is no new node
+  state_stays : nodes g ≡ nodes (undo g change) → new.state ≡ old.state
+  state_stays same =
+      let none : nodes g - length old.state ≡ 0 = omega (arith, same, covers.counted) in
+      edits.state ∙ (ap (λ n. old.state ++ replicate n Unk) none ∙ append-nil old.state)
+
+  -- so the machine is led
+  pub led_edit : nodes g ≡ nodes (undo g change) → Led (undo g change) g old new
+  led_edit same = record {
+    covers = edits.covers;
+    last = edits.last;
+    state = state_stays same;
+    known = λ kept known. edits_keep_texts g change kept old new wired_before wired covers edits known;
+    alike = coded_stays;
+  }
+
+-- ---- several
+
+led_none : (g : GraphData) (m : MachineData) → Covers g m → Led g g m m
+led_none g m covers = record { covers = covers; last = refl; state = refl; known = λ kept known. known; alike = λ base alike. alike }
+
+led_then : (f g h : GraphData) (old mid new : MachineData) → Led f g old mid → Led g h mid new → Led f h old new
+led_then f g h old mid new one two = record {
+  covers = two.covers;
+  last = two.last ∙ one.last;
+  state = two.state ∙ one.state;
+  known = λ kept known. two.known kept (one.known kept known);
+  alike = λ base alike. two.alike base (one.alike base alike);
+}
+
+pub led_in_none : (g : GraphData) (slot : Option MachineData) → IfSome slot (Covers g) → LedIn g g slot slot
+led_in_none g None covers = refl
+led_in_none g (Some m) covers = (m, refl, led_none g m covers)
+
+pub led_in_then : (f g h : GraphData) (old mid new : Option MachineData) → LedIn f g old mid → LedIn g h mid new → LedIn f h old new
+led_in_then f g h None mid new one two = subst (λ slot. LedIn g h slot new) one two
+led_in_then f g h (Some old) mid new (m, is, led) two =
+    let (n, is_too, led_too) = subst (λ slot. LedIn g h slot new) is two in
+    (n, is_too, led_then f g h old m n led led_too)
+
+-- a machine that was led covers where it was led
+pub covers_there : (g h : GraphData) (old new : Option MachineData) → LedIn g h old new → IfSome new (Covers h)
+covers_there g h None new led = subst (λ slot. IfSome slot (Covers h)) (sym led) tt
+covers_there g h (Some old) new (m, is, led) = subst (λ slot. IfSome slot (Covers h)) (sym is) led.covers
+
+-- it has the texts of the last build that it had
+pub last_there : (g h : GraphData) (old new : Option MachineData) → LedIn g h old new → last_in new ≡ last_in old
+last_there g h None new led = ap last_in led
+last_there g h (Some old) new (m, is, led) = ap last_in is ∙ led.last
+
+-- by way of another graph: there each group stands alike
+coded_here : (g : GraphData) (m : MachineData) → CodedAreAlike g g m
+coded_here g m k part stands coded group is_part = record {
+  here = is_part.is_group;
+  there = is_part.is_group;
+  places = λ place inside. refl;
+  levels = λ node member. refl;
+}
+
+coded_there : (g h : GraphData) (mid new : Option MachineData) → LedIn g h mid new → IfSome new (CodedAreAlike g h)
+coded_there g h None new led = subst (λ slot. IfSome slot (CodedAreAlike g h)) (sym led) tt
+coded_there g h (Some mid) new (m, is, led) = subst (λ slot. IfSome slot (CodedAreAlike g h)) (sym is) (led.alike g (coded_here g mid))
+
+-- a machine was led to a graph that is the one on the way, and on from it
+pub led_by_then : (f f_new g h : GraphData) (old mid new : Option MachineData) → f_new ≡ g → LedIn f g old mid → LedIn f_new h mid new → LedBy f g h old new
+led_by_then f f_new g h old mid new same one two =
+    let on = subst (λ (from : GraphData). LedIn from h mid new) same two in (led_in_then f g h old mid new one on, coded_there g h mid new on)
+
+-- it covers the graph that is the one on the way
+pub covers_the_way : (f f_new g : GraphData) (old mid : Option MachineData) → f_new ≡ g → LedIn f g old mid → IfSome mid (Covers f_new)
+covers_the_way f f_new g old mid same led = subst (λ (at : GraphData). IfSome mid (Covers at)) (sym same) (covers_there f g old mid led)
+
+-- and that is as large as the one that is led to
+pub large_from_the_way : (f_new g h : GraphData) → f_new ≡ g → IsAsLarge g h → IsAsLarge f_new h
+large_from_the_way f_new g h same large = subst (λ (at : GraphData). IsAsLarge at h) (sym same) large
+
+-- ---- the graph before an edit
+
+-- before another switch, or none, came to stand at a place
+pub undo_place : (g new : GraphData) (place count : ℕ) (stood stands : Option Switch) → new ≡ record g { places = slice_set g.places place stands } →
+    stood ≡ place_at g.places place → count ≡ nodes g → undo new (record { nodes = count; place = Some (place, stood); level = None }) ≡ g
+undo_place g new place count stood stands new_is stood_is count_is =
+    ap (λ (now : GraphData). undo now (record { nodes = count; place = Some (place, stood); level = None })) new_is
+    ∙ (ap (λ n. undo (record g { places = slice_set g.places place stands }) (record { nodes = n; place = Some (place, stood); level = None })) count_is
+    ∙ (ap (λ switch. undo (record g { places = slice_set g.places place stands }) (record { nodes = nodes g; place = Some (place, switch); level = None })) stood_is
+    ∙ (λ i. record {
+      levels = take-length g.levels i;
+      places = (set-set g.places place stands (place_at g.places place) ∙ set-get_or g.places place None) i;
+    })))
+
+-- before a node got another level
+pub undo_level : (g new : GraphData) (node count had has : ℕ) → new ≡ record g { levels = slice_set g.levels node has } → had ≡ level_of g node → count ≡ nodes g →
+    undo new (record { nodes = count; place = None; level = Some (node, had) }) ≡ g
+undo_level g new node count had has new_is had_is count_is =
+    ap (λ (now : GraphData). undo now (record { nodes = count; place = None; level = Some (node, had) })) new_is
+    ∙ (ap (λ n. undo (record g { levels = slice_set g.levels node has }) (record { nodes = n; place = None; level = Some (node, had) })) count_is
+    ∙ (ap (λ level. undo (record g { levels = slice_set g.levels node has }) (record { nodes = nodes g; place = None; level = Some (node, level) })) had_is
+    ∙ (λ i. record { levels = back i; places = g.places })))
+  where
+    whole : take (nodes g) (slice_set g.levels node has) ≡ slice_set g.levels node has
+    whole = ap (λ n. take n (slice_set g.levels node has)) (sym (length-set g.levels node has)) ∙ take-length (slice_set g.levels node has)
+
+    back : slice_set (take (nodes g) (slice_set g.levels node has)) node (level_of g node) ≡ g.levels
+    back =
+        ap (λ (list : List ℕ). slice_set list node (level_of g node)) whole
+        ∙ (set-set g.levels node has (level_of g node) ∙ set-get_or g.levels node 0)

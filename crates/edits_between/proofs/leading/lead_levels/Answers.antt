@@ -1,0 +1,35 @@
+-- One edit more.
+use Rattle.std.proofs.Common.{◌∙◌, arith}
+use Rattle.std.proofs.lemmas.Bool.{OnTrue_at}
+use Rattle.edits_between.proofs.LeadingLemmas.{covers_there, last_there, led_in_none, led_in_then}
+use Rattle.edits_between.proofs.leading.lead_levels.Goals as goal
+
+pub loop-node-init : goal.loop-node-init
+loop-node-init g c = record { led = led_in_none c.args.graph.now c.args.slot.now c.requires.covers; large = c.requires.large }
+
+pub lead_level-requires : goal.lead_level-requires
+lead_level-requires g c = record {
+  covers = covers_there c.args.graph.now c.loop-node.graph c.args.slot.now c.loop-node.slot c.loop-node.invariant.led;
+  large = c.loop-node.invariant.large;
+  inside = omega (arith, c.loop-node-test.true, c.loop-node.invariant.large.nodes_are, c.nodes-node-end.ensures);
+}
+
+pub returns-then-not-lead_level-clause-last : goal.returns-then-not-lead_level-clause-last
+returns-then-not-lead_level-clause-last g c =
+    c.lead_level.ensures.last ∙ last_there c.args.graph.now c.loop-node.graph c.args.slot.now c.loop-node.slot c.loop-node.invariant.led
+
+pub loop-node-preserved : goal.loop-node-preserved
+loop-node-preserved g c = record {
+  led = led_in_then c.args.graph.now c.loop-node.graph c.lead_level.new.graph c.args.slot.now c.loop-node.slot c.lead_level.new.slot c.loop-node.invariant.led
+      (OnTrue_at c.if-not-lead_level.false c.lead_level.ensures.led);
+  large = c.lead_level.ensures.large;
+}
+
+pub returns-clause-led : goal.returns-clause-led
+returns-clause-led g c = c.loop-node.invariant.led
+
+pub returns-clause-large : goal.returns-clause-large
+returns-clause-large g c = c.loop-node.invariant.large
+
+pub returns-clause-last : goal.returns-clause-last
+returns-clause-last g c = last_there c.args.graph.now c.loop-node.graph c.args.slot.now c.loop-node.slot c.loop-node.invariant.led

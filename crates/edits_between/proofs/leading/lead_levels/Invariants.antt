@@ -1,0 +1,9 @@
+-- So far the machine was led.
+use Rattle.edits_between.specs.Leading.{IsAsLarge, LedIn}
+use Rattle.edits_between.proofs.leading.lead_levels.Given as goal
+
+abbrev pub invariant-loop-node : goal.invariant-loop-node
+invariant-loop-node g l = record {
+  led : LedIn l.fn.graph l.graph l.fn.slot l.slot;
+  large : IsAsLarge l.graph l.target;
+}

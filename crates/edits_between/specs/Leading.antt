@@ -1,0 +1,43 @@
+-- A machine that is led from one graph to another, by the edits between them.
+use Rattle.std.specs.Prelude.{◌≡◌, ◌≢◌, ℕ, List, [], length, Option, None, Some, IfSome}
+use Rattle.switch_paths.specs.Graphs.{GraphData, nodes}
+use Rattle.group_meaning.specs.Groups.{Group}
+use Rattle.group_rest.specs.Alike.{IsAlike}
+use Rattle.group_text.specs.Texts.{GroupTextData}
+use Rattle.machine_parts.specs.declared.part.MachinePart.{MachinePart}
+use Rattle.machine_parts.specs.Parts.{Stands}
+use Rattle.machine_laws.specs.Machines.{MachineData}
+use Rattle.machine_laws.specs.Fitting.{IsPartOf, Covers, IsKeptBy}
+
+-- each part of the machine that has code is that of a group that stands alike in both graphs
+abbrev pub CodedAreAlike : GraphData → GraphData → MachineData → Type 0
+CodedAreAlike base g m =
+    (k : ℕ) (part : MachinePart) → Stands m.parts k part → part.code ≢ None → (group : Group) → IsPartOf g group part → IsAlike base g group
+
+-- the machine covers the graph that it was led to, has the state and the texts of the last build that it had, has no text that wasn't kept, and its parts
+-- that have code are those of groups that stand alike in any graph in which they did
+pub record Led (g h : GraphData) (old new : MachineData) : Type 0 where
+  pub covers : Covers h new
+  pub last : new.last ≡ old.last
+  pub state : new.state ≡ old.state
+  pub known : (kept : List GroupTextData) → IsKeptBy g kept old → IsKeptBy h kept new
+  pub alike : (base : GraphData) → CodedAreAlike base g old → CodedAreAlike base h new
+
+-- so it is if there is a machine
+abbrev pub LedIn : GraphData → GraphData → Option MachineData → Option MachineData → Type 0
+LedIn g h None new = new ≡ None
+LedIn g h (Some old) new = (machine : MachineData) × (new ≡ Some machine) × Led g h old machine
+
+-- it was led by way of another graph: the parts that have code are those of groups that stand alike there
+abbrev pub LedBy : GraphData → GraphData → GraphData → Option MachineData → Option MachineData → Type 0
+LedBy f g h old new = LedIn f h old new × IfSome new (CodedAreAlike g h)
+
+-- the texts of the last build, if there is a machine
+abbrev pub last_in : Option MachineData → List GroupTextData
+last_in None = []
+last_in (Some machine) = machine.last
+
+-- the graph has as many nodes and places
+pub record IsAsLarge (g h : GraphData) : Type 0 where
+  pub nodes_are : nodes h ≡ nodes g
+  pub places_are : length h.places ≡ length g.places

@@ -1,0 +1,206 @@
+//! Edits between two graphs.
+ghost use Rattle.std.specs.Prelude.{◌≡◌, ◌<◌, length, IfSome};
+ghost use Rattle.std.specs.Bool.{OnTrue};
+ghost use Rattle.switch_paths.specs.Graphs.{nodes, IsWired};
+ghost use Rattle.channel_groups.specs.Changes.{undo};
+ghost use Rattle.machine_laws.specs.Fitting.{Covers};
+ghost use Rattle.edits_between.specs.Leading.{IsAsLarge, LedBy, LedIn, last_in};
+
+use channel_groups::Change;
+use std::sync::ledger::Ledger;
+use switch_paths::{Graph, Switch, graphs_are_wired};
+use ternary::Steps;
+use unit_step::Machine;
+
+/// Leads a machine that covers the graph to another graph of as many nodes and places, and the graph becomes that one; answers whether it
+/// did. Out of memory the machine that is left is one for its states and the texts of its last build alone.
+pub fn lead<L: Ledger>(
+    slot: &mut Option<Machine>,
+    graph: &mut Graph,
+    target: &Graph,
+    steps: &mut Steps<L>,
+) -> bool
+    requires covers { IfSome slot.old (Covers graph.old) }
+    requires large { IsAsLarge graph.old target.now }
+    ensures led { OnTrue result (LedIn graph.old target.now slot.old slot.new) }
+    ensures graph { OnTrue result (graph.new ≡ target.now) }
+    ensures last { last_in slot.new ≡ last_in slot.old }
+{
+    if !lead_places(slot, graph, target, steps) {
+        return false;
+    }
+    if !lead_levels(slot, graph, target, steps) {
+        return false;
+    }
+    is_one(graph, target)
+}
+
+/// Leads a machine to another graph by way of a third one, both of as many nodes and places: each part that has code then is that of a group that stands
+/// alike in the third one.
+pub fn lead_by<L: Ledger>(
+    slot: &mut Option<Machine>,
+    graph: &mut Graph,
+    way: &Graph,
+    target: &Graph,
+    steps: &mut Steps<L>,
+) -> bool
+    requires covers { IfSome slot.old (Covers graph.old) }
+    requires there { IsAsLarge graph.old way.now }
+    requires large { IsAsLarge way.now target.now }
+    ensures led { OnTrue result (LedBy graph.old way.now target.now slot.old slot.new) }
+    ensures graph { OnTrue result (graph.new ≡ target.now) }
+    ensures last { last_in slot.new ≡ last_in slot.old }
+{
+    if !lead(slot, graph, way, steps) {
+        return false;
+    }
+    lead(slot, graph, target, steps)
+}
+
+// Whether two graphs are one.
+fn is_one(graph: &Graph, target: &Graph) -> bool
+    ensures { OnTrue result (graph.now ≡ target.now) }
+{
+    *graph == *target
+}
+
+// Follows an edit for each place at which the graphs differ, while there is memory.
+fn lead_places<L: Ledger>(
+    slot: &mut Option<Machine>,
+    graph: &mut Graph,
+    target: &Graph,
+    steps: &mut Steps<L>,
+) -> bool
+    requires covers { IfSome slot.old (Covers graph.old) }
+    requires large { IsAsLarge graph.old target.now }
+    ensures led { OnTrue result (LedIn graph.old graph.new slot.old slot.new) }
+    ensures large { IsAsLarge graph.new target.now }
+    ensures last { last_in slot.new ≡ last_in slot.old }
+{
+    for place in 0..target.places() {
+        if !lead_place(slot, graph, target, place, steps) {
+            return false;
+        }
+    }
+    true
+}
+
+// Follows the edit that puts at a place what stands there in the other graph, if it isn't the same.
+fn lead_place<L: Ledger>(
+    slot: &mut Option<Machine>,
+    graph: &mut Graph,
+    target: &Graph,
+    place: usize,
+    steps: &mut Steps<L>,
+) -> bool
+    requires covers { IfSome slot.old (Covers graph.old) }
+    requires large { IsAsLarge graph.old target.now }
+    requires inside { place < length graph.old.places }
+    ensures led { OnTrue result (LedIn graph.old graph.new slot.old slot.new) }
+    ensures large { IsAsLarge graph.new target.now }
+    ensures last { last_in slot.new ≡ last_in slot.old }
+{
+    graphs_are_wired(graph);
+    let stood = graph.switch_there(place);
+    let stands = target.switch_there(place);
+    if are_same(stood, stands) {
+        return true;
+    }
+    let change = Change {
+        nodes: graph.nodes(),
+        place: Some((place, stood)),
+        level: None,
+    };
+    graph.put_switch(place, stands);
+    follow(slot, graph, &change, steps)
+}
+
+// Whether the same stands at two places.
+fn are_same(one: Option<Switch>, other: Option<Switch>) -> bool {
+    one == other
+}
+
+// Follows an edit for each node whose levels differ, while there is memory.
+fn lead_levels<L: Ledger>(
+    slot: &mut Option<Machine>,
+    graph: &mut Graph,
+    target: &Graph,
+    steps: &mut Steps<L>,
+) -> bool
+    requires covers { IfSome slot.old (Covers graph.old) }
+    requires large { IsAsLarge graph.old target.now }
+    ensures led { OnTrue result (LedIn graph.old graph.new slot.old slot.new) }
+    ensures large { IsAsLarge graph.new target.now }
+    ensures last { last_in slot.new ≡ last_in slot.old }
+{
+    for node in 0..target.nodes() {
+        if !lead_level(slot, graph, target, node, steps) {
+            return false;
+        }
+    }
+    true
+}
+
+// Follows the edit that gives a node its level in the other graph, if it isn't the same.
+fn lead_level<L: Ledger>(
+    slot: &mut Option<Machine>,
+    graph: &mut Graph,
+    target: &Graph,
+    node: usize,
+    steps: &mut Steps<L>,
+) -> bool
+    requires covers { IfSome slot.old (Covers graph.old) }
+    requires large { IsAsLarge graph.old target.now }
+    requires inside { node < nodes graph.old }
+    ensures led { OnTrue result (LedIn graph.old graph.new slot.old slot.new) }
+    ensures large { IsAsLarge graph.new target.now }
+    ensures last { last_in slot.new ≡ last_in slot.old }
+{
+    graphs_are_wired(graph);
+    let had = graph.level(node);
+    let has = target.level(node);
+    if are_same_levels(had, has) {
+        return true;
+    }
+    let change = Change {
+        nodes: graph.nodes(),
+        place: None,
+        level: Some((node, had)),
+    };
+    graph.set_level(node, has);
+    follow(slot, graph, &change, steps)
+}
+
+// Whether two levels are one.
+fn are_same_levels(one: u8, other: u8) -> bool {
+    one == other
+}
+
+// Has the machine follow an edit of the graph, if there is one; answers whether there was memory.
+fn follow<L: Ledger>(
+    slot: &mut Option<Machine>,
+    graph: &Graph,
+    change: &Change,
+    steps: &mut Steps<L>,
+) -> bool
+    requires covers { IfSome slot.old (Covers (undo graph.now change.now)) }
+    requires wired { IsWired (undo graph.now change.now) }
+    requires nodes { nodes graph.now ≡ nodes (undo graph.now change.now) }
+    ensures led { OnTrue result (LedIn (undo graph.now change.now) graph.now slot.old slot.new) }
+    ensures last { last_in slot.new ≡ last_in slot.old }
+{
+    graphs_are_wired(graph);
+    let Some(machine) = slot.take() else {
+        return true;
+    };
+    match machine.edit(graph, change, steps) {
+        Ok(next) => {
+            *slot = Some(next);
+            true
+        }
+        Err(refused) => {
+            *slot = Some(refused.machine);
+            false
+        }
+    }
+}
