@@ -1,0 +1,92 @@
+//! Where a phase begins: nodes are placed in both runs.
+ghost use Rattle.std.specs.Prelude.{◌≡◌, ℕ, ◌<◌, ◌≤◌, length, Contains};
+ghost use Rattle.switch_paths.specs.declared.TheConstants.{RAILS};
+ghost use Rattle.switch_paths.specs.Switching.{state_at};
+ghost use Rattle.part_words.specs.declared.change.Change.{Change};
+ghost use Rattle.machine_parts.specs.Words.{AreAgreed};
+ghost use Rattle.vicinity.specs.NodeSets.{IsIn};
+ghost use Rattle.beside.specs.Fitting.{FitsBeside};
+ghost use Rattle.beside_run.specs.Running.{LagsAt, PlacesChange, PlacesChanges, PlacesSome};
+
+use beside_phases::place_both;
+use part_words::Change;
+use switch_paths::{Graph, RAILS};
+use ternary::Tern;
+use unit_step::Machine;
+use vicinity::NodeSet;
+
+/// Places the nodes of the changes with which the good run's phase begins: in the good run as they say, and under the fault at the
+/// states that are meant.
+pub(crate) fn place_changes(
+    machine: &mut Machine,
+    good_graph: &Graph,
+    graph: &Graph,
+    changes: &[Change],
+    state: &[Tern],
+    good: &mut [Tern],
+    apart: &mut NodeSet,
+)
+    requires fits { FitsBeside good_graph.now graph.now good.old apart.old.inside machine.old }
+    requires inside { (change : Change) → Contains changes.now change → change.node < length good.old }
+    requires rails { (change : Change) → Contains changes.now change → change.node < RAILS → state_at good.old change.node ≡ change.value }
+    requires agreed { AreAgreed changes.now }
+    requires counted { length state.now ≡ length machine.old.state }
+    ensures { PlacesChanges good_graph.now graph.now changes.now state.now machine.old machine.new good.old good.new apart.new.inside }
+{
+    for change in changes {
+        place_change(machine, good_graph, graph, change, state, good, apart);
+    }
+}
+
+// Places the node of a change, if it is no rail: a rail has its state already.
+fn place_change(
+    machine: &mut Machine,
+    good_graph: &Graph,
+    graph: &Graph,
+    change: &Change,
+    state: &[Tern],
+    good: &mut [Tern],
+    apart: &mut NodeSet,
+)
+    requires fits { FitsBeside good_graph.now graph.now good.old apart.old.inside machine.old }
+    requires inside { change.now.node < length good.old }
+    requires rail { change.now.node < RAILS → state_at good.old change.now.node ≡ change.now.value }
+    requires counted { length state.now ≡ length machine.old.state }
+    ensures { PlacesChange good_graph.now graph.now change.now state.now machine.old machine.new good.old good.new apart.new.inside }
+{
+    let node = change.node;
+    if node < RAILS {
+        return;
+    }
+    let meant = state[node];
+    let value = change.value;
+    place_both(machine, good_graph, graph, node, value, meant, good, apart);
+}
+
+/// Places the nodes that were given states: in the good run they stay, and under the fault they get the states that are meant.
+pub(crate) fn place_given(
+    machine: &mut Machine,
+    good_graph: &Graph,
+    graph: &Graph,
+    given: &NodeSet,
+    state: &[Tern],
+    good: &mut [Tern],
+    apart: &mut NodeSet,
+)
+    requires fits { FitsBeside good_graph.now graph.now good.old apart.old.inside machine.old }
+    requires inside { length given.now.inside ≡ length machine.old.state }
+    requires free { (node : ℕ) → IsIn given.now.inside node → RAILS ≤ node }
+    requires counted { length state.now ≡ length machine.old.state }
+    requires lags { LagsAt given.now.list state.now machine.old.state }
+    ensures places { PlacesSome good_graph.now graph.now machine.old machine.new good.new apart.new.inside }
+    ensures good { good.new ≡ good.old }
+    ensures state { machine.new.state ≡ state.now }
+{
+    let count = given.len();
+    for place in 0..count {
+        let node = given.at(place);
+        let value = good[node];
+        let meant = state[node];
+        place_both(machine, good_graph, graph, node, value, meant, good, apart);
+    }
+}
