@@ -28,6 +28,7 @@ pub(crate) fn tell_stop(
             let _ = eprintln!(rt; "cosmos: out of memory");
         }
         Status::Done | Status::Mismatch | Status::NetRefused | Status::ScriptRefused => {}
+        Status::Full => {}
     }
 }
 

@@ -63,6 +63,7 @@ module _ (words : List (List ℕ)) (holds : List ℕ → List ℕ) (circuit : Ci
   writes_listing status.ReadFault no_read _ _ answered = absurd (no_read refl)
   writes_listing status.WriteFault _ no_write _ answered = absurd (no_write refl)
   writes_listing status.NoMemory _ _ memory answered = absurd (memory refl)
+  writes_listing status.Full _ _ _ answered = from_written status.Full answered
 
 -- a faithful listing has the circuit's nodes
 pub nodes_listed : (circuit : CircuitData) (listing : ListingData) → IsFaithful circuit listing → length listing.entries ≡ nodes circuit.graph

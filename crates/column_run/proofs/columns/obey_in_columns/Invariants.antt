@@ -6,10 +6,10 @@ use Rattle.column_run.proofs.columns.obey_in_columns.Given as goal
 
 abbrev pub invariant-loop-line : goal.invariant-loop-line
 invariant-loop-line g l = record {
-  come : HasCome g.L.Lines.hear (g.M.Stage.columns l.fn.session.stage) l.cut (column_of g.M.Stage.states l.fn.session) (file.lines_in l.text)
-      (g.L.Lines.heard l.fn.out) (g.A.Analyst.analysed l.fn.analyst) (column_of g.M.Stage.states l.session) l.line-iterator (g.L.Lines.heard l.out)
+  come : HasCome g.L.Lines.hear (g.M.Columns.columns l.fn.session.stage) l.cut (column_of g.M.Columns.states l.fn.session) (file.lines_in l.text)
+      (g.L.Lines.heard l.fn.out) (g.A.Analyst.analysed l.fn.analyst) (column_of g.M.Columns.states l.session) l.line-iterator (g.L.Lines.heard l.out)
       (g.A.Analyst.analysed l.analyst);
-  columns : g.M.Stage.columns l.session.stage ≡ g.M.Stage.columns l.fn.session.stage;
+  columns : g.M.Columns.columns l.session.stage ≡ g.M.Columns.columns l.fn.session.stage;
   faults : g.L.Lines.faults l.out ≡ g.L.Lines.faults l.fn.out;
   refusals : g.L.Lines.refusals l.out ≡ g.L.Lines.refusals l.fn.out;
 }

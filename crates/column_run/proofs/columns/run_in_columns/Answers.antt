@@ -19,12 +19,12 @@ returns-in-End-clause-told g c =
 
 pub refuse_halt-requires : goal.refuse_halt-requires
 refuse_halt-requires g c =
-    let session = column_of g.M.Stage.states c.obey_in_columns.new.session 0 in
+    let session = column_of g.M.Columns.states c.obey_in_columns.new.session 0 in
     subst (λ (circuit : CircuitData). IsCutShort circuit c.in_ok-halt.halt) (sym c.circuit.ensures.value)
     (cut_short _ _ _ _ c.args.out.now.page c.obey_in_columns.new.out.page c.requires _ _ session c.in_ok-halt.halt c.in_default.not-End c.in_ok-halt.ensures.told)
 
 pub returns-in_default-clause-told : goal.returns-in_default-clause-told
 returns-in_default-clause-told g c =
-    let session = column_of g.M.Stage.states c.obey_in_columns.new.session 0 in
+    let session = column_of g.M.Columns.states c.obey_in_columns.new.session 0 in
     told_cut _ _ _ _ c.args.out.now.page c.obey_in_columns.new.out.page c.requires _ _ session c.refuse_halt.new.out.page c.in_ok-halt.halt c.refuse_halt.result
     c.in_ok-halt.ensures.told (rw (← c.circuit.ensures.value) c.refuse_halt.ensures.told)

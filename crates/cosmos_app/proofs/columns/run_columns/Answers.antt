@@ -1,7 +1,7 @@
 -- The columns start in the circuit, and the printer numbers them.
-use Rattle.std.proofs.Common.{◌≡◌, ℕ, ◌<◌, refl, ap, subst, ◌∙◌, arith}
+use Rattle.std.proofs.Common.{◌≡◌, ℕ, ◌<◌, ap, subst, ◌∙◌, arith}
 use Rattle.told_lines.specs.Printing.{PrinterData}
-use Rattle.column_machine_stage.specs.Stages.{StageData, states_in}
+use Rattle.column_machine_stage.specs.Stages.{StageData, last_held, states_in}
 use Rattle.session_meaning.specs.Columns.{column_of}
 use Rattle.run_ends.specs.Stops.{faults_written, IsRefusedOnce}
 use Rattle.cosmos_app.proofs.PurposeLemmas.{told_columns}
@@ -16,7 +16,7 @@ over-session-requires-clause-start g c = λ column inside.
     (rw (c.nodes.ensures, c.graph.ensures.value) at c.in_ok-stage.ensures.states) column within
 
 pub over-session-requires-clause-last : goal.over-session-requires-clause-last
-over-session-requires-clause-last g c = refl
+over-session-requires-clause-last g c = ap last_held c.in_ok-stage.ensures.machine
 
 pub over-session-requires-clause-serves : goal.over-session-requires-clause-serves
 over-session-requires-clause-serves g c = λ kept. c.in_ok-stage.ensures.serves c.args.circuit.graph kept
