@@ -1,4 +1,5 @@
--- If no group is due, each part that waits is that of a group that is stepped by vicinities already: nothing is woken, and nothing is analysed.
+-- If no part waits, or if no group is due, each part that waits is that of a group that is stepped by vicinities already: nothing is woken, and
+-- nothing is analysed.
 use Rattle.std.proofs.Common.{◌≡◌, ◌<◌, ℕ, false, true, inl, inr, List, [], ◌∷◌, length, filter, get_or, Some, None, refl, sym, ap, subst, ◌∙◌, arith, append-nil}
 use Rattle.std.specs.Prelude.{Contains, not, slice_get}
 use Rattle.std.proofs.lemmas.Bool.{cases_Bool}
@@ -6,15 +7,18 @@ use Rattle.std.proofs.lemmas.List.Elements.{All-nil}
 use Rattle.std.proofs.lemmas.Option.{slice_get_read, slice_get-get_or, get_or_from_slice_get}
 use Rattle.switch_paths.specs.Graphs.{GraphData}
 use Rattle.group_meaning.specs.Groups.{Group, id_of}
+use Rattle.group_meaning.proofs.UniqueGroups.{unique}
 use Rattle.group_text.specs.Texts.{GroupTextData}
 use Rattle.circuit_texts.specs.declared.sizes.GroupSizes.{GroupSizes}
 use Rattle.circuit_texts.specs.Sizes.{fault_in, NoneRefused}
 use Rattle.circuit_texts.specs.Told.{has_text, with_text, without_text}
 use Rattle.circuit_texts.specs.Choosing.{chosen}
 use Rattle.circuit_texts.specs.Building.{Fills}
+use Rattle.circuit_texts.proofs.SizeLemmas.{fits_any}
+use Rattle.kept_parts.specs.Uses.{count_distinct}
 use Rattle.wide_groups.specs.Staying.{HoldsNode}
 use Rattle.machine_parts.specs.declared.part.MachinePart.{MachinePart}
-use Rattle.machine_parts.specs.Parts.{Stands}
+use Rattle.machine_parts.specs.Parts.{Stands, IsStale}
 use Rattle.machine_laws.specs.Machines.{MachineData, groups_in}
 use Rattle.machine_laws.specs.Fitting.{IsPartOf, Covers, AreTold, AreUntold, IsKeptBy}
 use Rattle.machine_laws.specs.Columns.{HasNoTexts}
@@ -40,7 +44,33 @@ none_pass (x ∷ xs) = none_pass xs
 not_in : {X : Type 0} (x : X) → ¬ Contains [] x
 not_in x there = absurd (omega (arith, there.1))
 
-module _ (g : GraphData) (m : MachineData) (covers : Covers g m) (large : ℕ) (sizes : GroupSizes) (are_due : AreDue g m large sizes)
+-- each part that waits is that of a group that is passed over
+abbrev pub ArePassed : GraphData → MachineData → ℕ → Type 0
+ArePassed g m large = (k : ℕ) (part : MachinePart) (group : Group) → Stands m.parts k part → part.code ≡ None → IsPartOf g group part →
+    IsPassed large m.wide (id_of group)
+
+module _ (g : GraphData) (m : MachineData) (covers : Covers g m) (large : ℕ) (none : (k : ℕ) → ¬ IsStale m.parts k) where
+  stale_part : (k : ℕ) (part : MachinePart) (group : Group) → Stands m.parts k part → part.code ≡ None → IsPartOf g group part → IsStale m.parts k
+  stale_part k part group stands stale is_part = record { part = part; stands = stands; some = some_members is_part; none = stale }
+
+  -- if no part waits, that is so of each
+  pub none_passed : ArePassed g m large
+  none_passed k part group stands stale is_part = absurd (none k (stale_part k part group stands stale is_part))
+
+  -- and each group has a text, so none is refused
+  pub few_coded : NoneRefused large g
+  few_coded groups are i group at =
+      let all = covers.groups.groups in
+      let here : slice_get all i ≡ Some group = subst (λ list. slice_get list i ≡ Some group) (sym (unique g all groups covers.are.are are)) at in
+      let has = covers.each i group here in
+      elim (known_or_not has.part.code) [
+        | inr lacks ↦ absurd (none has.k (stale_part has.k has.part group has.stands lacks has.is_part))
+        | inl (code, is) ↦
+            let numbered = covers.numbered has.k has.part has.stands (some_members has.is_part) (λ lacks. absurd (cc (lacks, is))) in
+            fits_any large group (covers.known has.k has.part has.stands numbered group has.is_part).fits
+      ]
+
+module _ (g : GraphData) (m : MachineData) (large : ℕ) (sizes : GroupSizes) (are_due : AreDue g m large sizes)
     (told : sizes.told.items ≡ []) (without : sizes.large.items ≡ []) where
   abbrev all_groups : List Group
   all_groups = groups_in m.groups
@@ -62,7 +92,7 @@ module _ (g : GraphData) (m : MachineData) (covers : Covers g m) (large : ℕ) (
       ]
 
   -- so each part that waits is that of a group that is passed over
-  all_passed : (k : ℕ) (part : MachinePart) (group : Group) → Stands m.parts k part → part.code ≡ None → IsPartOf g group part → IsPassed large m.wide (id_of group)
+  pub all_passed : ArePassed g m large
   all_passed k part group stands stale is_part =
       elim (are_due.all k part group stands stale is_part) [
         | inr passed ↦ passed
@@ -71,22 +101,23 @@ module _ (g : GraphData) (m : MachineData) (covers : Covers g m) (large : ℕ) (
             absurd (not_due group (n, inside, get_or_from_slice_get all_groups n group group at) waits)
       ]
 
-  -- all are held as before
+module _ (g : GraphData) (m : MachineData) (covers : Covers g m) (large : ℕ) (passed : ArePassed g m large) where
+  -- then all are held as before
   pub all_held : HoldsAll m.parts m.wide []
   all_held k goes =
       let stale = goes.stale in
       let (group, is_part) = covers.whole k stale.part stale.stands stale.some in
       subst (HoldsNode m.wide) (sym (first_is g m.parts k stale.part stale.stands group is_part))
-      (all_passed k stale.part group stale.stands stale.none is_part).1
+      (passed k stale.part group stale.stands stale.none is_part).1
 
   have_texts : AreTold g m
   have_texts k part group stands stale is_part fits =
-      passed_told g m covers large k part group stands stale is_part (all_passed k part group stands stale is_part) fits
+      passed_told g m covers large k part group stands stale is_part (passed k part group stands stale is_part) fits
 
   -- and nothing is woken
-  pub Wakes-none : Wakes g [] m m
-  Wakes-none = record {
-    ready = IsReady-covered g m covers have_texts are_due.texts;
+  pub Wakes-none : m.texts ≡ count_distinct m.uses → Wakes g [] m m
+  Wakes-none texts = record {
+    ready = IsReady-covered g m covers have_texts texts;
     last = refl;
     wide = refl;
     stale = λ k. (λ stale. record { stale = stale; other = not_in k }, λ goes. goes.stale);
@@ -102,21 +133,20 @@ module _ (g : GraphData) (m : MachineData) (covers : Covers g m) (large : ℕ) (
   }
 
   -- no group waits
-  AreWaiting-none : AreWaiting g m.parts m.uses all_groups [] []
+  AreWaiting-none : AreWaiting g m.parts m.uses covers.groups.groups [] []
   AreWaiting-none = record {
     waits = λ group. false;
-    some_are = none_pass all_groups;
+    some_are = none_pass covers.groups.groups;
     others = has_one;
     slots_are = tt;
     all = λ k part group stands stale is_part fits. inr (have_texts k part group stands stale is_part fits);
     once = λ i j before inside. absurd (omega (arith, inside));
   }
     where
-      has_one : (group : Group) → Contains all_groups group → false ≡ false → fault_in group ≡ None → HasText g m.parts m.uses group
+      has_one : (group : Group) → Contains covers.groups.groups group → false ≡ false → fault_in group ≡ None → HasText g m.parts m.uses group
       has_one group (i, inside, here) waits fits =
-          let same : all_groups ≡ covers.groups.groups = ap groups_in covers.kept in
-          let at = subst (λ groups. slice_get groups i ≡ Some group) same (slice_get_read all_groups (length all_groups) i group refl inside (sym here)) in
-          let has = covers.each i group at in
+          let all = covers.groups.groups in
+          let has = covers.each i group (slice_get_read all (length all) i group refl inside (sym here)) in
           record {
             k = has.k;
             part = has.part;
@@ -134,8 +164,8 @@ module _ (g : GraphData) (m : MachineData) (covers : Covers g m) (large : ℕ) (
       Fills large g kept kept before before 0
   Fills-none few kept known before = record {
     fresh = [];
-    news = waiting_texts g m covers all_groups [] [] are_due.are AreWaiting-none (All-nil (λ group. fault_in group ≡ None)) large
-        (λ i d inside. few all_groups are_due.are i (get_or all_groups i d) (slice_get-get_or all_groups i d inside)) kept known [] refl;
+    news = waiting_texts g m covers covers.groups.groups [] [] covers.are.are AreWaiting-none (All-nil (λ group. fault_in group ≡ None)) large
+        (λ i d inside. few covers.groups.groups covers.are.are i (get_or covers.groups.groups i d) (slice_get-get_or covers.groups.groups i d inside)) kept known [] refl;
     kept = sym (append-nil kept);
     analysed = sym (append-nil before);
     number = refl;

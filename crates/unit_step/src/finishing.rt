@@ -1,14 +1,15 @@
 //! The codes of the parts that an edit made stale.
 ghost use Rattle.std.specs.Prelude.{◌≡◌, ℕ, ◌⊎◌, None, length, All, IsTrue, Err, IfOk, IfErr, OnOk, OnErr, slice_index_or};
+ghost use Rattle.std.specs.Bool.{OnTrue};
 ghost use Rattle.switch_paths.specs.Graphs.{nodes};
 ghost use Rattle.switch_paths.specs.Rails.{IsRailed, IsSound};
 ghost use Rattle.group_text.specs.FirstTexts.{is_among};
 ghost use Rattle.analysis_cache.specs.Words.{texts_of, IsGrown, HoldsKept, HoldsNearlyKept};
 ghost use Rattle.circuit_texts.specs.Words.{NoneRefused, TellsRefused, Builds, Fills, IsCutOff};
 ghost use Rattle.group_analysis.specs.Using.{used_texts};
-ghost use Rattle.kept_parts.specs.Uses.{some_texts};
+ghost use Rattle.kept_parts.specs.Uses.{count_distinct, some_texts};
 ghost use Rattle.machine_parts.specs.declared.part.MachinePart.{MachinePart};
-ghost use Rattle.machine_parts.specs.Parts.{Stands};
+ghost use Rattle.machine_parts.specs.Parts.{IsStale, Stands};
 ghost use Rattle.machine_laws.specs.Words.{Covers, IsKeptBy, Finishes, MakesReady, StaysKnown, AreInOrder};
 ghost use Rattle.machine_laws.specs.Columns.{HasNoTexts};
 ghost use Rattle.unit_step.specs.LastTexts.{IsLeft};
@@ -80,8 +81,43 @@ impl Machine {
     }
 
     // Gives the stale parts their codes. The texts that aren't kept are analysed first, and kept behind what is
-    // kept; the answer is how many were. If no group is due, only the bound changes.
+    // kept; the answer is how many were. If no part waits, only the bound changes.
     fn wake<A: Analyst>(
+        &mut self,
+        graph: &Graph,
+        large: usize,
+        codes: Codes,
+        kept: &mut Kept,
+        analyst: &mut A,
+    ) -> Result<u64, BuildFault>
+        requires covers { Covers graph.now self.old }
+        requires railed { IsRailed graph.now }
+        requires sound { IsSound self.old.state }
+        requires known { IsKeptBy graph.now (texts_of kept.old) self.old }
+        ensures makes_ready { OnOk result (MakesReady graph.now self.old self.new) }
+        ensures stays { OnOk result (StaysKnown large self.old self.new) }
+        ensures without { OnOk result (codes ≡ Codes.All → large ≡ 0 → self.old.wide ≡ None → HasNoTexts self.old → self.new.wide ≡ None) }
+        ensures fills { IfOk result (Fills large graph.now (texts_of kept.old) (texts_of kept.new) (A.analysed analyst.old) (A.analysed analyst.new)) }
+        ensures bound { kept.new.bound ≡ kept.old.bound }
+        ensures cut_off { result ≡ Err BuildFault.NoMemory → IsCutOff large graph.now (texts_of kept.old) (texts_of kept.new) (A.analysed analyst.old) (A.analysed analyst.new) }
+        ensures refused { IfErr result (λ fault. (fault ≡ BuildFault.NoMemory)
+            ⊎ (TellsRefused large graph.now fault × (kept.new ≡ kept.old) × (A.analysed analyst.new ≡ A.analysed analyst.old))) }
+        ensures err { OnErr result (self.new ≡ self.old) }
+        ensures grown { IsGrown kept.old kept.new }
+        ensures holds { OnOk result (HoldsKept kept.old (A.held analyst.old) → HoldsKept kept.new (A.held analyst.new)) }
+        ensures nearly { OnErr result (HoldsKept kept.old (A.held analyst.old) → HoldsNearlyKept kept.new (A.held analyst.new)) }
+    {
+        if self.none_waits() {
+            self.hold_up_to(large);
+            return Ok(0);
+        }
+        self.wake_due(graph, large, codes, kept, analyst)
+    }
+
+    // The same, where some part may wait: if no group is due, only the bound changes. What takes room is here, so that
+    // a machine at rest has none of it to make ready.
+    #[inline(never)]
+    fn wake_due<A: Analyst>(
         &mut self,
         graph: &Graph,
         large: usize,
@@ -118,6 +154,14 @@ impl Machine {
         self.make_ready(graph, risen)?;
         self.hold(large, holding);
         Ok(fresh)
+    }
+
+    // Whether no part waits for its code. The distinct texts are counted, whether one does or not.
+    fn none_waits(&self) -> bool
+        ensures none { OnTrue result ((k : ℕ) → ¬ IsStale self.now.parts k) }
+        ensures texts { self.now.texts ≡ count_distinct self.now.uses }
+    {
+        self.body.agenda.none_waits()
     }
 
     // The ids of the groups whose parts wait. Those are passed over that are stepped by vicinities already, unless one of

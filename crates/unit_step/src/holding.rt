@@ -7,7 +7,7 @@ ghost use Rattle.machine_parts.specs.Words.{IsMarked, MarksAll};
 ghost use Rattle.vicinity.specs.NodeSets.{IsIn};
 ghost use Rattle.wide_groups.specs.Awake.{HoldsWide};
 ghost use Rattle.wide_groups.specs.Moving.{graph_in};
-ghost use Rattle.wide_groups.specs.Staying.{GrowsIn, HoldsNode};
+ghost use Rattle.wide_groups.specs.Staying.{GrowsIn, HoldsNode, lowered};
 ghost use Rattle.machine_laws.specs.Finishing.{first_node};
 ghost use Rattle.unit_step.specs.Holding.{HasNodes, HoldsParts, IsOfThese, wide_after, wide_in, room_in};
 
@@ -45,6 +45,15 @@ impl Machine {
             }
             None => lower(large, &mut self.body.wide),
         }
+    }
+
+    // Those groups that were still are, and a group without a text is one of them only if it has no more members than
+    // `large` either.
+    #[tactic(auto, using(wide_groups::proofs::StayingLemmas::holds_lowered))]
+    pub(crate) fn hold_up_to(&mut self, large: usize)
+        ensures { self.new ≡ record self.old { wide = lowered large self.old.wide } }
+    {
+        lower(large, &mut self.body.wide);
     }
 }
 

@@ -93,6 +93,9 @@ impl LastTexts {
         ensures set { set_of (texts_of kept.new) ≡ set_of (texts_of kept.old) }
         ensures bound { kept.new.bound ≡ kept.old.bound }
     {
+        if self.changed.is_empty() {
+            return;
+        }
         self.changed.sort_unstable();
         self.changed.dedup();
         let mut place = self.changed.len();

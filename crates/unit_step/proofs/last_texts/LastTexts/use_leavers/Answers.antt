@@ -1,9 +1,10 @@
 -- The noted nodes are sorted, each stands once, and the text of one more of them goes to the front, unless a part has it.
 use Rattle.std.proofs.Common.{◌≡◌, ℕ, ◌+◌, ◌-◌, ◌<◌, List, [], Option, None, nat_eq, length, filter, drop, get_or, refl, sym, ap, subst, ◌∙◌, arith}
-use Rattle.std.specs.Prelude.{Contains, slice_index_or}
+use Rattle.std.specs.Prelude.{Contains, slice_index_or, vec_len}
 use Rattle.std.specs.List.{dedup}
 use Rattle.std.specs.List.Sorted.{IsPermutation}
-use Rattle.std.proofs.lemmas.List.{drop_all, get_or_default}
+use Rattle.std.proofs.lemmas.Bool.{eqb-true}
+use Rattle.std.proofs.lemmas.List.{drop_all, get_or_default, nil_from_length}
 use Rattle.std.proofs.lemmas.List.Elements.{All-contains}
 use Rattle.std.proofs.lemmas.List.Filters.{dedup_is}
 use Rattle.std.proofs.lemmas.List.Kept.{Contains-dedup_nat, Contains-from_dedup}
@@ -17,6 +18,23 @@ use Rattle.unit_step.proofs.LastTextsLemmas.{AreLastTexts-reordered, if_some_eac
 use Rattle.unit_step.proofs.UsedInTurn.{used-left, numbered-kept}
 use Rattle.unit_step.proofs.last_texts.LastTexts.use_leavers.Goals.{After-index, After-index-in-loop-place}
 use Rattle.unit_step.proofs.last_texts.LastTexts.use_leavers.Goals as goal
+
+-- if no node is noted, no text is used
+pub returns-then-is_empty-clause-uses : goal.returns-then-is_empty-clause-uses
+returns-then-is_empty-clause-uses c =
+    let empty : vec_len c.args.self.now.changed ≡ 0 = eqb-true (vec_len c.args.self.now.changed) 0 (sym c.is_empty.ensures ∙ c.if-is_empty.true) in
+    let none : c.args.self.now.changed.items ≡ [] = nil_from_length c.args.self.now.changed.items (omega (arith, empty, c.args.self.now.changed.ok.0)) in
+    record {
+      leavers = [];
+      are = record {
+        places = [];
+        ascending = λ k inside. absurd (omega (arith, inside));
+        these = λ node there. subst (λ xs. Contains xs node) none there;
+        only = λ node there. subst (λ xs. Contains xs node) (sym none) there;
+        are = refl;
+      };
+      used = sym (used_texts-none (texts_of c.args.kept.now));
+    }
 
 pub loop-place-init : goal.loop-place-init
 loop-place-init c =
