@@ -30,4 +30,5 @@ pub use laws::{
     commands_move_the_machine, held_machines_serve, only_edits_lose_the_machine,
     refused_commands_leave_the_machine,
 };
+pub use moving::{settle_to_rest, take_step};
 pub use stage::MachineStage;

@@ -34,7 +34,7 @@ pub(crate) fn place(machine: &mut Machine, graph: &Graph, node: usize, value: Te
 }
 
 /// Takes a unit step of a graph that the machine fits, and shows the state behind it if it changed.
-pub(crate) fn take_step<O: Onlooker>(machine: &mut Machine, graph: &Graph, onlooker: &mut O)
+pub fn take_step<O: Onlooker>(machine: &mut Machine, graph: &Graph, onlooker: &mut O)
     requires fits { FitsGraph graph.now machine.old }
     requires knows { O.knows onlooker.old machine.old.state }
     ensures takes { TakesStep graph.now machine.old machine.new }
@@ -60,7 +60,7 @@ fn show<O: Onlooker>(machine: &mut Machine, changed: &mut Option<Vec<usize>>, on
 /// Settles in a graph that the machine fits, and shows each state that it passes through. If it comes to rest in time,
 /// no part is marked but those whose groups are stepped by vicinities, and no node of these is touched: one step more
 /// changes nothing, counts for nothing, and leaves no other mark and nothing touched.
-pub(crate) fn settle_to_rest<O: Onlooker>(
+pub fn settle_to_rest<O: Onlooker>(
     machine: &mut Machine,
     graph: &Graph,
     limit: u64,

@@ -150,7 +150,7 @@ impl MachineStage {
     /// Texts that aren't kept are analysed first, each once, and kept; the answer is how many these are. What is
     /// kept, with the texts of this build in front, is what a build leaves. The refusals are those of a build;
     /// after them the state and the machine are as before.
-    #[tactic(auto, using(crate::proofs::RoomLemmas::built_finished, crate::proofs::RoomLemmas::built_anew, crate::proofs::LastLemmas::builds_anew, crate::proofs::LastLemmas::last_kept, crate::proofs::LastLemmas::cut_off_alone))]
+    #[tactic(auto, using(crate::proofs::RoomLemmas::built_finished))]
     pub(crate) fn make<A: Analyst>(
         &mut self,
         alloc: Global,
@@ -178,20 +178,52 @@ impl MachineStage {
     {
         match &mut self.held {
             Held::Built(machine) => machine.finish(graph, large, Codes::Short, kept, analyst),
-            Held::Still(state) => {
-                let (machine, fresh) = Machine::build(
-                    alloc,
-                    graph,
-                    state,
-                    large,
-                    Codes::Short,
-                    kept,
-                    analyst,
-                )?;
-                self.held = Held::Built(machine);
-                Ok(fresh)
-            }
+            Held::Still(_) => self.start_machine(alloc, graph, large, kept, analyst),
         }
+    }
+
+    // Builds a machine that fits the graph, where there is none. A machine is large: room for one on the stack is made
+    // ready here, and so not where the one that is there is looked at alone.
+    #[inline(never)]
+    #[tactic(auto, using(crate::proofs::RoomLemmas::built_anew, crate::proofs::LastLemmas::builds_anew, crate::proofs::LastLemmas::last_kept, crate::proofs::LastLemmas::cut_off_alone))]
+    fn start_machine<A: Analyst>(
+        &mut self,
+        alloc: Global,
+        graph: &Graph,
+        large: usize,
+        kept: &mut Kept,
+        analyst: &mut A,
+    ) -> Result<u64, BuildFault>
+        requires counted { length self.old.state ≡ nodes graph.now }
+        requires railed { IsRailed graph.now }
+        requires sound { IsSound self.old.state }
+        requires none { self.old.machine ≡ None }
+        ensures built { OnOk result (BuiltFrom large graph.now self.old self.new) }
+        ensures builds { IfOk result (Builds large graph.now kept.old.bound (kept_in self.old.machine (texts_of kept.old)) (kept_in self.new.machine (texts_of kept.new))
+            (A.analysed analyst.old) (A.analysed analyst.new)) }
+        ensures last { OnOk result (AreAmong (last_in self.new.machine) (texts_of kept.new)) }
+        ensures bound { kept.new.bound ≡ kept.old.bound }
+        ensures cut_off { result ≡ Err BuildFault.NoMemory → IsCutOff large graph.now (kept_in self.old.machine (texts_of kept.old)) (kept_in self.old.machine (texts_of kept.new))
+            (A.analysed analyst.old) (A.analysed analyst.new) }
+        ensures refused { IfErr result (λ fault. (fault ≡ BuildFault.NoMemory)
+            ⊎ (TellsRefused large graph.now fault × (kept.new ≡ kept.old) × (A.analysed analyst.new ≡ A.analysed analyst.old))) }
+        ensures err { OnErr result (self.new ≡ self.old) }
+        ensures grown { OnErr result (IsGrown kept.old kept.new) }
+    {
+        let Held::Still(state) = &self.held else {
+            unreachable!();
+        };
+        let (machine, fresh) = Machine::build(
+            alloc,
+            graph,
+            state,
+            large,
+            Codes::Short,
+            kept,
+            analyst,
+        )?;
+        self.held = Held::Built(machine);
+        Ok(fresh)
     }
 
     /// Gives a node that is no rail this state.
