@@ -22,6 +22,7 @@ ghost use Rattle.cosmos_session.specs.Targets.{target_of};
 
 use crate::session::Session;
 use crate::values::Target;
+use crate::waves::RowRoom;
 use analysis_cache::{Analyst, Kept};
 use column_script::{ColumnCommand, ValueCommand};
 use column_stage::{ColumnStage, Columns, Stage};
@@ -63,6 +64,7 @@ impl<M: Columns> Session<M> {
             kept,
             large: 0,
             fresh: 0,
+            room: RowRoom::new(alloc),
         }
     }
 }

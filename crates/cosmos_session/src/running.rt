@@ -1,6 +1,6 @@
 //! The commands that have the circuit built: unit steps, phases and cycles of all columns, and their rows of waveform lines.
 
-ghost use Rattle.std.specs.Prelude.{◌≡◌, ◌<◌, ◌≤◌, ◌+◌, ℕ, ◌*◌, false, List, [], ◌∷◌, length, replicate, slice_index_or, slice_set, All, IfErr, IfOk, OnOk};
+ghost use Rattle.std.specs.Prelude.{◌≡◌, ◌<◌, ◌≤◌, ◌+◌, ℕ, ◌*◌, false, List, [], ◌∷◌, length, replicate, slice_index_or, slice_set, All, IfErr, OnOk};
 ghost use Rattle.std.specs.List.{range_with_len};
 ghost use Rattle.switch_paths.specs.Graphs.{nodes};
 ghost use Rattle.switch_paths.specs.Step.{IsStep};
@@ -30,14 +30,14 @@ use crate::placing::put_in_all;
 use crate::putting::begin_at;
 use crate::refusals;
 use crate::session::Session;
-use crate::waves::WaveRoom;
+use crate::waves::{RowRoom, WaveRoom};
 use analysis_cache::Analyst;
 use column_stage::{PlainStage, Stage};
 use printed_lines::{COLUMN_ROOM, WAVE_LINE_ROOM};
 use script_lang::Run;
 use session_meaning::{ApplyFault, Clock, places_of};
 use settling::{Onlooker, Settled};
-use std::alloc::AllocError;
+use std::mem;
 use switch_paths::Graph;
 use ternary::NoMemory;
 use told_lines::Lines;
@@ -95,7 +95,8 @@ impl<M: Stage> Session<M> {
     /// Has the circuit built, and does in each column what the command says, under the eyes of an onlooker, who is shown the
     /// first column if the stage shows states.
     ///
-    /// All memory is taken before the first unit step, a build last of all.
+    /// All memory is taken before the first unit step, a build last of all. The room for rows of an earlier command serves again; a
+    /// command that ends before its first unit step lets it go.
     pub(crate) fn run_columns<A: Analyst, L: Lines, O: Onlooker>(
         &mut self,
         run: &Run,
@@ -116,33 +117,37 @@ impl<M: Stage> Session<M> {
         if let Some(refusal) = refusals::run_refusal(run, &self.circuit, &self.clocks) {
             return Err(ApplyFault::Refused(refusal));
         }
-        let mut counts = self.single_steps()?;
-        let mut room = self.row_room()?;
+        let mut room = self.take_room();
+        self.fill_room(&mut room)?;
         out.reserve(self.row_bytes())?;
         self.make_ready(analyst)?;
         self.is_well_formed();
-        self.move_columns(run, &mut counts, &mut room, out, onlooker)
+        let done = self.move_columns(run, &mut room.counts, &mut room.values, out, onlooker);
+        self.keep_room(room);
+        done
     }
 
-    // What a single unit step counts, in each column.
-    fn single_steps(&self) -> Result<Vec<Settled>, AllocError>
-        ensures { IfOk result (λ counts. counts.items ≡ replicate (M.columns self.now.stage) (record { steps = 1; joined = false })) }
+    // Takes the room for rows out of the session.
+    fn take_room(&mut self) -> RowRoom
+        ensures { self.new ≡ self.old }
     {
-        let single = Settled {
-            steps: 1,
-            joined: false,
-        };
-        vec![in self.alloc; single; self.stage.columns() as usize]
+        mem::replace(&mut self.room, RowRoom::new(self.alloc))
     }
 
-    // Room for the values of a row.
-    fn row_room(&self) -> Result<WaveRoom, NoMemory>
-        ensures { IfOk result (λ room. M.columns self.now.stage * length self.now.core.watched ≤ room) }
+    // Keeps the room for rows for the next command.
+    fn keep_room(&mut self, room: RowRoom)
+        ensures { self.new ≡ self.old }
     {
-        WaveRoom::new(
-            self.alloc,
-            self.stage.columns() as usize * self.watched.len(),
-        )
+        self.room = room;
+    }
+
+    // Counts a single unit step in each column, and has room for the values of a row.
+    fn fill_room(&self, room: &mut RowRoom) -> Result<(), NoMemory>
+        ensures counts { OnOk result (room.new.counts.items ≡ replicate (M.columns self.now.stage) (record { steps = 1; joined = false })) }
+        ensures room { OnOk result (M.columns self.now.stage * length self.now.core.watched ≤ room.new.values) }
+    {
+        let columns = self.stage.columns() as usize;
+        room.make_ready(columns, columns * self.watched.len())
     }
 
     // How many bytes a row has at most.

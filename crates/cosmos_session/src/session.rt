@@ -11,6 +11,7 @@ ghost use Rattle.session_meaning.specs.Sinks.{faults_applied};
 ghost use Rattle.session_meaning.specs.Outcomes.{Obeys};
 ghost use Rattle.session_meaning.specs.Stages.{ObeysOn};
 
+use crate::waves::RowRoom;
 use analysis_cache::{Analyst, Kept};
 use column_stage::{Columns, PlainStage};
 use netlist::Circuit;
@@ -30,7 +31,8 @@ use told_lines::Lines;
 /// many texts were analysed since the last report.
 ///
 /// Beside these data contracts see the stage that moves the state, whatever it is: what it is built of comes at the
-/// first command that wants it, and lives through edits of the circuit.
+/// first command that wants it, and lives through edits of the circuit. They don't see the room for rows of waveform lines, which is
+/// held between commands.
 #[derive(Drop)]
 pub struct Session<M: Columns> {
     pub(crate) alloc: Global,
@@ -46,6 +48,7 @@ pub struct Session<M: Columns> {
     pub(crate) kept: Kept,
     pub(crate) large: usize,
     pub(crate) fresh: u64,
+    pub(crate) room: RowRoom,
 }
 
 impl<M: Columns> Model for Session<M> {
@@ -165,6 +168,7 @@ impl<M: PlainStage> Session<M> {
             kept,
             large: 0,
             fresh: 0,
+            room: RowRoom::new(alloc),
         }
     }
 

@@ -1,6 +1,7 @@
-//! Waveform lines: the room of one or of a row of them, taken before the first unit step, and how a line or a row is told.
+//! Waveform lines: the room of one or of a row of them, taken before the first unit step and held between commands, and how a line or
+//! a row is told.
 
-ghost use Rattle.std.specs.Prelude.{◌≡◌, ◌<◌, ◌≤◌, ℕ, ◌+◌, ◌*◌, ◌^◌, ◌++◌, [], ◌∷◌, length, map, vec_len, vec_capacity, All, IfErr, IfOk};
+ghost use Rattle.std.specs.Prelude.{◌≡◌, ◌<◌, ◌≤◌, ℕ, ◌+◌, ◌*◌, ◌^◌, ◌++◌, [], ◌∷◌, length, map, false, replicate, vec_len, vec_capacity, All, IfErr, IfOk, OnOk};
 ghost use Rattle.switch_paths.specs.Switching.{state_at};
 ghost use Rattle.printed_lines.specs.declared.lines.TheConstants.{COLUMN_ROOM, MOST_VALUES, WAVE_LINE_ROOM};
 ghost use Rattle.told_lines.specs.Hearing.{Hears, row_of};
@@ -35,7 +36,52 @@ impl Model for WaveRoom {
     ghost invariant = { λ room. room.values.items ≡ [] };
 }
 
+/// What a session holds between commands, so that a step or a phase takes no memory that an earlier one took: a count for each
+/// column, and room for the values of a row.
+#[derive(Drop)]
+pub(crate) struct RowRoom {
+    pub(crate) counts: Vec<Settled>,
+    pub(crate) values: WaveRoom,
+}
+
+impl RowRoom {
+    /// Nothing is held yet.
+    pub(crate) fn new(alloc: Global) -> RowRoom
+        ensures { result.counts.items ≡ [] }
+    {
+        RowRoom {
+            counts: Vec::new(alloc),
+            values: WaveRoom {
+                values: Vec::new(alloc),
+            },
+        }
+    }
+
+    /// Counts a single unit step in each of so many columns, and has room for so many states. What is held already serves
+    /// again.
+    pub(crate) fn make_ready(&mut self, columns: usize, states: usize) -> Result<(), NoMemory>
+        ensures counts { OnOk result (self.new.counts.items ≡ replicate columns (record { steps = 1; joined = false })) }
+        ensures room { OnOk result (states ≤ self.new.values) }
+    {
+        let single = Settled {
+            steps: 1,
+            joined: false,
+        };
+        self.counts.clear();
+        self.counts.resize(columns, single)?;
+        self.values.reserve(states)
+    }
+}
+
 impl WaveRoom {
+    /// Has room for so many states.
+    fn reserve(&mut self, states: usize) -> Result<(), NoMemory>
+        ensures { OnOk result (states ≤ self.new) }
+    {
+        self.values.reserve(states)?;
+        Ok(())
+    }
+
     /// Room for so many states.
     pub(crate) fn new(alloc: Global, states: usize) -> Result<WaveRoom, NoMemory>
         ensures { IfOk result (λ room. states ≤ room) }

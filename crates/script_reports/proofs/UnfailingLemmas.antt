@@ -24,3 +24,6 @@ memory_alone (Ok value) other none = tt
 memory_alone (Err Read) other none = absurd (other refl)
 memory_alone (Err Write) other none = absurd (omega (arith, none))
 memory_alone (Err Memory) other none = refl
+
+pub memory_unread : Memory ≢ Read
+memory_unread = λ is. absurd (cc (is))

@@ -9,6 +9,7 @@ use Rattle.script_meaning.proofs.LowerLemmas.{ready-start}
 use Rattle.script_reports.specs.Explaining.{hear_nothing}
 use Rattle.script_reports.proofs.HaltedLemmas.{halted_size}
 use Rattle.script_reports.proofs.ReasonedLemmas.{told_halt}
+use Rattle.script_reports.proofs.UnfailingLemmas.{memory_unread}
 use Rattle.script_reports.proofs.reasons.explain.Goals as goal
 
 pub run_unwritten-requires-clause-ready : goal.run_unwritten-requires-clause-ready
@@ -35,6 +36,12 @@ returns-clause-told g c =
     (subst (λ (start : SessionData). HaltsAt hear_nothing plain_reading (file.cut_line c.args.text.now) start (file.lines_in c.args.text.now) new tt tt asked told halt)
     c.in_ok-session.ensures.core c.in_ok-halt.ensures.halts)
     c.explain_at.ensures.told
+
+-- a run that ends before a node is explained ended for lack of memory
+pub returns-in_err-halt-clause-no_read : goal.returns-in_err-halt-clause-no_read
+returns-in_err-halt-clause-no_read g c =
+    let p = err_from_is_err_and c.from_residual-in_err-halt.result c.from_residual-in_err-halt.ensures.1 in
+    rw (p.1, p.2, c.in_err-halt.ensures.memory) memory_unread
 
 pub returns-in_err-halt-clause-write : goal.returns-in_err-halt-clause-write
 returns-in_err-halt-clause-write g c =
