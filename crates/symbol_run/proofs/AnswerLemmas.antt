@@ -172,7 +172,7 @@ abbrev fault_of : Option NamedStop → NameFault
 fault_of (Some stop) = stop.1
 fault_of None = NoMemory
 
-first_known : (d : NamesData) (asked : List (ℕ × Option SymbolLine)) (number : ℕ) → first_by_names d asked ≡ Some (number, NoMemory) → ⊥
+pub first_known : (d : NamesData) (asked : List (ℕ × Option SymbolLine)) (number : ℕ) → first_by_names d asked ≡ Some (number, NoMemory) → ⊥
 first_known d [] number is = cc is
 first_known d (own ∷ others) number is =
     by (names_fault d (names_of_line own.1)) refl (λ found. first_known (with_line d (names_of_line own.1)) others number found) is
@@ -186,7 +186,7 @@ first_known d (own ∷ others) number is =
     by None one later other = later other
 
 -- so the line that is written is that of the refusal
-named_alike : (stop : NamedStop) → stop.1 ≢ NoMemory → names_text (Some stop) ≡ end_text None (Some stop)
+pub named_alike : (stop : NamedStop) → stop.1 ≢ NoMemory → names_text (Some stop) ≡ end_text None (Some stop)
 named_alike (number, TooManyVariables) known =
     ap (λ (text : List ℕ). text ++ codes "\n") (append-nil (place_of (Script number) ++ codes "S19 TooManyVariables"))
 named_alike (number, NameDefined) known =

@@ -40,8 +40,9 @@ pub trait LineSession {
     fn circuit(&self) -> &Circuit
         ensures { (column : ℕ) → column < (valuations self.now).columns → (sessions self.now column).circuit ≡ result.now };
 
-    /// The vectors. They serve for the words of notes alone, and no clause speaks of them.
-    fn vectors(&self) -> &Vectors;
+    /// The vectors, which are the same in each column.
+    fn vectors(&self) -> &Vectors
+        ensures { (column : ℕ) → column < (valuations self.now).columns → (sessions self.now column).vectors ≡ result.now };
 
     /// Obeys a line, or tells why it is refused. The one that holds the first byte too many of the script is refused.
     fn obey<L: SymbolLines, A: Analyst>(

@@ -6,7 +6,7 @@
 //! expectation isn't met; [`Notes`] keep the functions of the nodes that waveform lines show, for who compares them.
 //!
 //! ```text
-//! let mut out = SymbolPrinter::new(alloc, variables, sink)?;
+//! let mut out = SymbolPrinter::new(LineBuf::new(alloc, 0)?, variables, sink);
 //! out.tell(ToldLine::Wave { n: 7, k: 2, mark: true, values: &[Some(Tern::One), None] }, highs, lows)?
 //!     writes `7 2* 1?` and LF
 //! ```

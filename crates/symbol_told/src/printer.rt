@@ -1,5 +1,5 @@
 //! A hearer that writes lines to a sink.
-ghost use Rattle.std.specs.Prelude.{◌≡◌, [], false, IfOk, OnErr, OnOk};
+ghost use Rattle.std.specs.Prelude.{◌≡◌, [], false, OnErr, OnOk};
 ghost use Rattle.std.specs.Io.KnownBytes.{append_known};
 ghost use Rattle.ports.specs.Ports.{faults_after, RefusedOnce};
 ghost use Rattle.ports.specs.Sending.{WritesPart};
@@ -12,7 +12,6 @@ use decision_graph::Function;
 use ports::{NotedFile, PortFault, Sink, send};
 use printed_lines::LineBuf;
 use script_lang::{Name, NameList};
-use std::alloc::Global;
 use std::marker::Model;
 use ternary::NoMemory;
 
@@ -39,19 +38,19 @@ impl<S: Sink + Drop> Model for SymbolPrinter<S> {
 }
 
 impl<S: Sink + Drop> SymbolPrinter<S> {
-    /// A printer to this sink, by the names of these variables.
-    pub fn new(alloc: Global, variables: NameList, sink: S) -> Result<SymbolPrinter<S>, NoMemory>
-        ensures page { IfOk result (λ printer. printer.page ≡ record { variables = variables; written = S.written sink; missed = false }) }
-        ensures faults { IfOk result (λ printer. printer.faults ≡ S.faults sink) }
-        ensures refusals { IfOk result (λ printer. printer.refusals ≡ S.refusals sink) }
+    /// A printer to this sink, by the names of these variables, by way of a buffer without bytes.
+    pub fn new(line: LineBuf, variables: NameList, sink: S) -> SymbolPrinter<S>
+        requires { line.bytes ≡ [] }
+        ensures page { result.page ≡ record { variables = variables; written = S.written sink; missed = false } }
+        ensures faults { result.faults ≡ S.faults sink }
+        ensures refusals { result.refusals ≡ S.refusals sink }
     {
-        let line = LineBuf::new(alloc, 0)?;
-        Ok(SymbolPrinter {
+        SymbolPrinter {
             variables,
             missed: false,
             line,
             sink,
-        })
+        }
     }
 
     /// Whether an expectation among the lines isn't met.
