@@ -1,0 +1,10 @@
+pub mod SearchLemmas
+pub mod MergeLemmas
+pub mod ToldLemmas
+pub mod ReadLemmas
+pub mod AlikeLemmas
+pub mod ShapeLemmas
+pub mod LineLemmas
+pub mod FamilyLemmas
+pub mod RunLemmas
+pub mod BreakLemmas

@@ -1,0 +1,4 @@
+pub mod Families
+pub mod Shapes
+pub mod Outcomes
+pub mod Laws
