@@ -1,0 +1,34 @@
+-- What was heard is what the command comes to.
+use Rattle.std.proofs.Common.{◌∙◌, refl, sym}
+use Rattle.symbol_looking.specs.Names.{all_looked}
+use Rattle.symbol_looking.specs.Tellings.{tellings}
+use Rattle.symbol_looking.proofs.HeardLemmas.{faults_told, refused_told, some_heard, tells_heard}
+use Rattle.symbol_looking.proofs.MergingLemmas.{session_looked}
+use Rattle.symbol_looking.proofs.looking.look.Goals as goal
+
+pub returns-in-Some-clause-tells : goal.returns-in-Some-clause-tells
+returns-in-Some-clause-tells g c = (sym c.in-Some.ensures, refl)
+
+pub returns-in-Some-clause-merged : goal.returns-in-Some-clause-merged
+returns-in-Some-clause-merged g c = session_looked c.args.session.now c.args.names.now
+
+pub look_all-requires : goal.look_all-requires
+look_all-requires g c = sym c.in-None.ensures
+
+pub returns-in-None-clause-tells : goal.returns-in-None-clause-tells
+returns-in-None-clause-tells g c =
+    rw c.applied.ensures
+    (tells_heard g.L.SymbolLines.hear g.L.SymbolLines.part _ (tellings (all_looked c.args.session.now c.args.names.now))
+    (g.L.SymbolLines.heard c.args.out.now) (g.L.SymbolLines.heard c.look_all.new.out) c.look_all.result (sym c.in-None.ensures)
+    (some_heard g.L.SymbolLines.hear g.L.SymbolLines.part (g.L.SymbolLines.heard c.args.out.now) (g.L.SymbolLines.heard c.look_all.new.out)
+    (tellings (all_looked c.args.session.now c.args.names.now)) c.look_all.result c.look_all.ensures.heard))
+
+pub returns-in-None-clause-merged : goal.returns-in-None-clause-merged
+returns-in-None-clause-merged g c = session_looked c.args.session.now c.args.names.now
+
+pub returns-in-None-clause-faults : goal.returns-in-None-clause-faults
+returns-in-None-clause-faults g c =
+    rw c.applied.ensures (c.look_all.ensures.faults ∙ faults_told (g.L.SymbolLines.faults c.args.out.now) c.look_all.result)
+
+pub returns-in-None-clause-refusals : goal.returns-in-None-clause-refusals
+returns-in-None-clause-refusals g c = rw c.applied.ensures (refused_told _ _ c.look_all.result c.look_all.ensures.refusals)

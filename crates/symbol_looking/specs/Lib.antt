@@ -1,0 +1,4 @@
+pub mod Letters
+pub mod Tellings
+pub mod Waves
+pub mod Names

@@ -1,0 +1,185 @@
+//! Nodes that are looked at.
+ghost use Rattle.std.specs.Prelude.{◌≡◌, ◌<◌, ◌≤◌, ◌++◌, [], None, flat_map, is_some, length, option_map, true, All};
+ghost use Rattle.std.specs.List.{cons_option};
+ghost use Rattle.ports.specs.Ports.{faults_after, RefusedOnce};
+ghost use Rattle.switch_paths.specs.Graphs.{nodes};
+ghost use Rattle.netlist.specs.Words.{node_named, node_of};
+ghost use Rattle.told_lines.specs.Hearing.{Hears};
+ghost use Rattle.script_lang.specs.declared.command.Tell.TheVariants as asked;
+ghost use Rattle.session_meaning.specs.Columns.{column_of};
+ghost use Rattle.session_meaning.specs.Effects.{told_by};
+ghost use Rattle.session_meaning.specs.Refusals as refusal;
+ghost use Rattle.session_meaning.specs.Sinks.{faults_applied};
+ghost use Rattle.symbol_meaning.specs.Merging.{AreMerged};
+ghost use Rattle.symbol_told.specs.Lines.{told_seen};
+ghost use Rattle.symbol_stage.specs.Stages.{columns_on, states_in};
+ghost use Rattle.symbol_looking.specs.Letters.{letter_on, nodes_on};
+ghost use Rattle.symbol_looking.specs.Names.{all_looked, all_told_at, looked_at, looked_told};
+ghost use Rattle.symbol_looking.specs.Tellings.{RefusedTelling, TellsInAll, tellings};
+
+use crate::lines::{Terminal, line_at, node_line};
+use crate::telling::{applied, tell_line};
+use cosmos_session::Session;
+use netlist::Circuit;
+use ports::PortFault;
+use script_lang::Name;
+use session_meaning::{ApplyFault, Refusal};
+use symbol_stage::SymbolStage;
+use symbol_told::{SymbolLines, ToldLine};
+
+/// `look`: tells the lines of the node of each of these names, with the letters that nodes have in all columns, and what the
+/// switches do in all of them.
+///
+/// It changes nothing, and takes no memory of its own.
+pub fn look<L: SymbolLines>(
+    session: &Session<SymbolStage>,
+    names: &[Name],
+    out: &mut L,
+) -> Result<(), ApplyFault>
+    ensures tells { TellsInAll L.hear L.part
+        (refusal.refusal_of_tell session.now.core.circuit session.now.core.vectors (asked.Look names.now))
+        (tellings (all_looked session.now names.now)) (L.heard out.old) (L.heard out.new) result }
+    ensures merged { AreMerged (columns_on session.now.stage) (λ column. told_by (column_of states_in session.now column) (asked.Look names.now))
+        (all_looked session.now names.now) }
+    ensures faults { L.faults out.new ≡ faults_applied (L.faults out.old) result }
+    ensures refusals { RefusedTelling (L.refusals out.old) (L.refusals out.new) result }
+{
+    match look_refusal(session, names) {
+        Some(found) => Err(ApplyFault::Refused(found)),
+        None => applied(look_all(session, names, out)),
+    }
+}
+
+// Why the nodes of these names can't be looked at.
+fn look_refusal(session: &Session<SymbolStage>, names: &[Name]) -> Option<Refusal>
+    ensures { result ≡ refusal.refusal_of_tell session.now.core.circuit session.now.core.vectors (asked.Look names.now) }
+{
+    node_refusal(session.circuit(), names)
+}
+
+// The first refusal of these names as names of nodes.
+fn node_refusal(circuit: &Circuit, names: &[Name]) -> Option<Refusal>
+    ensures { result ≡ refusal.first_refusal (λ name. refusal.known_refusal (node_of circuit.now.names name)) names.now }
+{
+    for name in names {
+        if circuit.find(name.items()).is_none() {
+            return Some(Refusal::UnknownNode);
+        }
+    }
+    None
+}
+
+// Tells the lines of the node of each of these names, which are in use.
+fn look_all<L: SymbolLines>(
+    session: &Session<SymbolStage>,
+    names: &[Name],
+    out: &mut L,
+) -> Result<(), PortFault>
+    requires { refusal.refusal_of_tell session.now.core.circuit session.now.core.vectors (asked.Look names.now) ≡ None }
+    ensures heard { Hears L.hear L.part (L.heard out.old) (L.heard out.new) (tellings (all_looked session.now names.now)) result }
+    ensures faults { L.faults out.new ≡ faults_after (L.faults out.old) result }
+    ensures refusals { RefusedOnce (L.refusals out.old) (L.refusals out.new) result }
+{
+    look_names(session.circuit(), session.stage(), names, out)
+}
+
+// Tells the lines of the node of each of these names, which are in use in a circuit.
+fn look_names<L: SymbolLines>(
+    circuit: &Circuit,
+    stage: &SymbolStage,
+    names: &[Name],
+    out: &mut L,
+) -> Result<(), PortFault>
+    requires states { nodes circuit.now.graph ≤ nodes_on stage.now }
+    requires known { All (λ name. is_some (node_of circuit.now.names name) ≡ true) names.now }
+    ensures heard { Hears L.hear L.part (L.heard out.old) (L.heard out.new) (tellings (flat_map (looked_told circuit.now (letter_on stage.now)) names.now)) result }
+    ensures faults { L.faults out.new ≡ faults_after (L.faults out.old) result }
+    ensures refusals { RefusedOnce (L.refusals out.old) (L.refusals out.new) result }
+{
+    for name in names {
+        tell_node(circuit, stage, node_in_use(circuit, name.items()), out)?;
+    }
+    Ok(())
+}
+
+// The node of a name, which is in use.
+fn node_in_use(circuit: &Circuit, name: &[u8]) -> usize
+    requires { is_some (node_of circuit.now.names name.now) ≡ true }
+    ensures value { result ≡ node_named circuit.now name.now }
+    ensures within { result < nodes circuit.now.graph }
+{
+    circuit.find(name).unwrap()
+}
+
+// Tells the lines of a node. It reads the circuit twice, once for the transistors with an end at the node and once for those
+// that it is the gate of.
+fn tell_node<L: SymbolLines>(
+    circuit: &Circuit,
+    stage: &SymbolStage,
+    node: usize,
+    out: &mut L,
+) -> Result<(), PortFault>
+    requires states { nodes circuit.now.graph ≤ nodes_on stage.now }
+    requires inside { node < nodes circuit.now.graph }
+    ensures heard { Hears L.hear L.part (L.heard out.old) (L.heard out.new) (tellings (looked_at circuit.now (letter_on stage.now) node)) result }
+    ensures faults { L.faults out.new ≡ faults_after (L.faults out.old) result }
+    ensures refusals { RefusedOnce (L.refusals out.old) (L.refusals out.new) result }
+{
+    tell_line(node_line(circuit, stage, node), out)?;
+    tell_switches(circuit, stage, node, out)
+}
+
+// Tells the lines of the transistors at a node: of those with an end at it, and then of those that it is the gate of.
+fn tell_switches<L: SymbolLines>(
+    circuit: &Circuit,
+    stage: &SymbolStage,
+    node: usize,
+    out: &mut L,
+) -> Result<(), PortFault>
+    requires states { nodes circuit.now.graph ≤ nodes_on stage.now }
+    ensures heard { Hears L.hear L.part (L.heard out.old) (L.heard out.new)
+        (tellings (all_told_at Terminal.End circuit.now (letter_on stage.now) node ++ all_told_at Terminal.Gate circuit.now (letter_on stage.now) node)) result }
+    ensures faults { L.faults out.new ≡ faults_after (L.faults out.old) result }
+    ensures refusals { RefusedOnce (L.refusals out.old) (L.refusals out.new) result }
+{
+    tell_at(circuit, stage, Terminal::End, node, out)?;
+    tell_at(circuit, stage, Terminal::Gate, node, out)
+}
+
+// Tells the lines of the transistors with this terminal at a node, by their numbers.
+fn tell_at<L: SymbolLines>(
+    circuit: &Circuit,
+    stage: &SymbolStage,
+    terminal: Terminal,
+    node: usize,
+    out: &mut L,
+) -> Result<(), PortFault>
+    requires states { nodes circuit.now.graph ≤ nodes_on stage.now }
+    ensures heard { Hears L.hear L.part (L.heard out.old) (L.heard out.new) (tellings (all_told_at terminal circuit.now (letter_on stage.now) node)) result }
+    ensures faults { L.faults out.new ≡ faults_after (L.faults out.old) result }
+    ensures refusals { RefusedOnce (L.refusals out.old) (L.refusals out.new) result }
+{
+    for place in 0..count_of(circuit) {
+        tell_some(line_at(circuit, stage, terminal, node, place), out)?;
+    }
+    Ok(())
+}
+
+// How many places a circuit has.
+fn count_of(circuit: &Circuit) -> usize
+    ensures { result ≡ length circuit.now.graph.places }
+{
+    circuit.graph().places()
+}
+
+// Tells a line, if there is one.
+fn tell_some<L: SymbolLines>(line: Option<ToldLine>, out: &mut L) -> Result<(), PortFault>
+    ensures heard { Hears L.hear L.part (L.heard out.old) (L.heard out.new) (tellings (cons_option (option_map told_seen line.entry) [])) result }
+    ensures faults { L.faults out.new ≡ faults_after (L.faults out.old) result }
+    ensures refusals { RefusedOnce (L.refusals out.old) (L.refusals out.new) result }
+{
+    match line {
+        Some(line) => tell_line(line, out),
+        None => Ok(()),
+    }
+}
