@@ -1,0 +1,5 @@
+pub mod MissingLemmas
+pub mod LetterLemmas
+pub mod FaultLemmas
+pub mod ToldLemmas
+pub mod ColumnLemmas

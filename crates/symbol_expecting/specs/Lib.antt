@@ -1,0 +1,4 @@
+pub mod Faults
+pub mod Missing
+pub mod Telling
+pub mod Expecting

@@ -1,0 +1,178 @@
+//! `expect` of a symbolic script.
+ghost use Rattle.std.specs.Prelude.{◌≡◌, ◌+◌, ◌<◌, ◌∷◌, [], All, Err, drop, length, IfErr, IfOk};
+ghost use Rattle.formula_functions.specs.Tables.{TableData};
+ghost use Rattle.session_meaning.specs.Sessions.{HeldSession};
+ghost use Rattle.symbol_stage.specs.Stages.{StageData};
+ghost use Rattle.symbol_meaning.specs.Merging.{AreToldOf, IsToldOf};
+ghost use Rattle.symbol_meaning.specs.Readings.{Valuations};
+ghost use Rattle.symbol_giving.specs.Giving.{data_of};
+ghost use Rattle.symbol_giving.specs.Letters.{AreGivenBy, IsTableOf, OnlyMakes};
+ghost use Rattle.symbol_giving.specs.StandIns.{IsGiven};
+ghost use Rattle.symbol_expecting.specs.Expecting.{AreMeantBy, ExpectsInAll, Tells};
+ghost use Rattle.symbol_expecting.specs.Faults.{IsSilent, IsSpentBy, RefusedExpected, faults_expected};
+ghost use Rattle.symbol_expecting.specs.Missing.{AreWantedOf, IsFirstMissed};
+
+use crate::allowing::allow;
+use crate::fault::{ExpectFault, of_graph};
+use crate::search::first_in_session;
+use crate::telling::tell_unmet;
+use cosmos_session::Session;
+use formula_functions::NamedFunctions;
+use std::alloc::Global;
+use symbol_giving::{SymbolLetter, letters_of};
+use symbol_script::{Assignment, AssignmentList};
+use symbol_stage::SymbolStage;
+use symbol_told::SymbolLines;
+
+/// `expect`: tells of each assignment, from left to right, the first valuation under which it isn't met, if there is one, after
+/// so many waveform lines. The answer is whether anything was told.
+///
+/// In each column it is what the command of a plain script is that it is there: it is refused if that is, before anything is told.
+/// The session stays as it was, but that its stage's maker made more. If vertices or memory run out, or the hearer meets a
+/// fault, a front of what would be told was heard. Vertices run out only if there are as many as there may be.
+pub fn expect<L: SymbolLines>(
+    session: &mut Session<SymbolStage>,
+    alloc: Global,
+    table: &NamedFunctions,
+    list: &AssignmentList,
+    n: u64,
+    out: &mut L,
+) -> Result<bool, ExpectFault>
+    requires table { IsTableOf session.old.stage table.now }
+    requires count { n ≡ session.old.core.count }
+    ensures told { (v : Valuations) → AreMeantBy session.old table.now list.now v →
+        ExpectsInAll L.hear L.part v (data_of session.old) list.now (L.heard out.old) (L.heard out.new) result }
+    ensures only { OnlyMakes session.old session.new }
+    ensures full { result ≡ Err ExpectFault.Full → IsSpentBy session.new.stage ExpectFault.Full }
+    ensures faults { L.faults out.new ≡ faults_expected (L.faults out.old) result }
+    ensures refusals { RefusedExpected (L.refusals out.old) (L.refusals out.new) result }
+{
+    allow(alloc, session.circuit(), session.vectors(), list)?;
+    expect_all(session, alloc, table, list.items(), n, out)
+}
+
+// Tells of all assignments, none of which is refused.
+fn expect_all<L: SymbolLines>(
+    session: &mut Session<SymbolStage>,
+    alloc: Global,
+    table: &NamedFunctions,
+    list: &[Assignment],
+    n: u64,
+    out: &mut L,
+) -> Result<bool, ExpectFault>
+    requires table { IsTableOf session.old.stage table.now }
+    requires count { n ≡ session.old.core.count }
+    requires given { All (IsGiven session.old.core.circuit session.old.core.vectors) list.now }
+    ensures told { (v : Valuations) → AreMeantBy session.old table.now list.now v →
+        Tells (AreToldOf v (data_of session.old) list.now) L.hear L.part (L.heard out.old) (L.heard out.new) result }
+    ensures only { OnlyMakes session.old session.new }
+    ensures spent { IfErr result (IsSpentBy session.new.stage) }
+    ensures faults { L.faults out.new ≡ faults_expected (L.faults out.old) result }
+    ensures refusals { RefusedExpected (L.refusals out.old) (L.refusals out.new) result }
+{
+    let mut missed = false;
+    for k in 0..list.len() {
+        let own = assignment_at(list, k);
+        let told = expect_one(session, alloc, table, own, n, out)?;
+        missed |= told;
+    }
+    Ok(missed)
+}
+
+// The assignment at a place.
+fn assignment_at(list: &[Assignment], k: usize) -> &Assignment
+    requires { k < length list.now }
+    ensures { drop k list.now ≡ result.now ∷ drop (k + 1) list.now }
+{
+    &list[k]
+}
+
+// Tells of an assignment, if it isn't met under some valuation.
+fn expect_one<L: SymbolLines>(
+    session: &mut Session<SymbolStage>,
+    alloc: Global,
+    table: &NamedFunctions,
+    own: &Assignment,
+    n: u64,
+    out: &mut L,
+) -> Result<bool, ExpectFault>
+    requires table { IsTableOf session.old.stage table.now }
+    requires count { n ≡ session.old.core.count }
+    requires given { IsGiven session.old.core.circuit session.old.core.vectors own.now }
+    ensures told { (first : HeldSession StageData) (v : Valuations) → OnlyMakes first session.old → IsTableOf first.stage table.now →
+        AreMeantBy first table.now (own.now ∷ []) v →
+        Tells (IsToldOf v (data_of first) own.now) L.hear L.part (L.heard out.old) (L.heard out.new) result }
+    ensures only { OnlyMakes session.old session.new }
+    ensures spent { IfErr result (IsSpentBy session.new.stage) }
+    ensures faults { L.faults out.new ≡ faults_expected (L.faults out.old) result }
+    ensures refusals { RefusedExpected (L.refusals out.old) (L.refusals out.new) result }
+{
+    let pairs = wanted_of(session, alloc, table, own)?;
+    expect_nodes(session, alloc, own, &pairs, n, out)
+}
+
+// Tells of an assignment of which this is wanted of these nodes, if it isn't met under some valuation.
+fn expect_nodes<L: SymbolLines>(
+    session: &mut Session<SymbolStage>,
+    alloc: Global,
+    own: &Assignment,
+    pairs: &[(usize, SymbolLetter)],
+    n: u64,
+    out: &mut L,
+) -> Result<bool, ExpectFault>
+    requires count { n ≡ session.old.core.count }
+    requires wanted { AreWantedOf session.old.stage pairs.now }
+    ensures told { (first : HeldSession StageData) (table : TableData) (v : Valuations) → OnlyMakes first session.old →
+        AreGivenBy first table own.now session.old.stage pairs.now → AreMeantBy first table (own.now ∷ []) v →
+        Tells (IsToldOf v (data_of first) own.now) L.hear L.part (L.heard out.old) (L.heard out.new) result }
+    ensures only { OnlyMakes session.old session.new }
+    ensures spent { IfErr result (IsSpentBy session.new.stage) }
+    ensures faults { L.faults out.new ≡ faults_expected (L.faults out.old) result }
+    ensures refusals { RefusedExpected (L.refusals out.old) (L.refusals out.new) result }
+{
+    let found = first_of(session, alloc, pairs)?;
+    match found {
+        Some(vars) => tell_unmet(session, alloc, own, pairs, &vars, n, out),
+        None => Ok(false),
+    }
+}
+
+// The nodes of an assignment, each with the letter that is wanted of it.
+fn wanted_of(
+    session: &mut Session<SymbolStage>,
+    alloc: Global,
+    table: &NamedFunctions,
+    own: &Assignment,
+) -> Result<Vec<(usize, SymbolLetter)>, ExpectFault>
+    requires table { IsTableOf session.old.stage table.now }
+    requires given { IsGiven session.old.core.circuit session.old.core.vectors own.now }
+    ensures only { OnlyMakes session.old session.new }
+    ensures letters { IfOk result (λ pairs. AreGivenBy session.old table.now own.now session.new.stage pairs.items) }
+    ensures wanted { IfOk result (λ pairs. AreWantedOf session.new.stage pairs.items) }
+    ensures spent { IfErr result (IsSpentBy session.new.stage) }
+    ensures silent { IfErr result IsSilent }
+{
+    session.stage();
+    match letters_of(session, alloc, table, own) {
+        Ok(pairs) => Ok(pairs),
+        Err(fault) => Err(of_graph(fault)),
+    }
+}
+
+// The valuation of the first column in which these nodes aren't all as they are wanted; None exactly if they are in all columns.
+fn first_of(
+    session: &mut Session<SymbolStage>,
+    alloc: Global,
+    pairs: &[(usize, SymbolLetter)],
+) -> Result<Option<Vec<bool>>, ExpectFault>
+    requires { AreWantedOf session.old.stage pairs.now }
+    ensures only { OnlyMakes session.old session.new }
+    ensures first { IfOk result (IsFirstMissed session.new.stage pairs.now) }
+    ensures spent { IfErr result (IsSpentBy session.new.stage) }
+    ensures silent { IfErr result IsSilent }
+{
+    match first_in_session(alloc, session, pairs) {
+        Ok(found) => Ok(found),
+        Err(fault) => Err(of_graph(fault)),
+    }
+}
