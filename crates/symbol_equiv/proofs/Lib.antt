@@ -1,0 +1,9 @@
+pub mod KeptLemmas
+pub mod RailLemmas
+pub mod ShownLemmas
+pub mod WordLemmas
+pub mod HeadLemmas
+pub mod LineLemmas
+pub mod RunLemmas
+pub mod FaultLemmas
+pub mod AnswerLemmas
