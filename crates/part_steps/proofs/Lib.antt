@@ -6,5 +6,6 @@ pub mod TakingLemmas
 pub mod AdvanceLemmas
 pub mod ReadersLemmas
 pub mod DenseLemmas
+pub mod SameCodes
 pub mod PuttingLemmas
 pub mod SmallLemmas

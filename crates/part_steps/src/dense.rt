@@ -1,5 +1,6 @@
 //! What a step reads of the parts, in a dense form.
 ghost use Rattle.std.specs.Prelude.{◌≡◌, List, ◌<◌, ◌++◌, ◌∷◌, [], None, Some, length, slice_get, slice_set, vec_len, vec_capacity, All, IfOk, IfSome, OnOk};
+ghost use Rattle.std.specs.Bool.{OnTrue};
 ghost use Rattle.straight_code.specs.Code.{CodeData};
 ghost use Rattle.machine_parts.specs.declared.part.MachinePart.{MachinePart};
 ghost use Rattle.machine_parts.specs.Words.{Puts, AreOnce};
@@ -9,7 +10,7 @@ use crate::putting::put_in;
 use machine_parts::MachinePart;
 use std::alloc::{AllocError, Global};
 use std::rc::Rc;
-use straight_code::Code;
+use straight_code::{Code, Instruction, Output};
 use ternary::NoMemory;
 
 /// What a step reads of a part that has code: where its code stands among the codes, and where its map begins among
@@ -21,8 +22,11 @@ pub struct Seat {
 }
 
 /// What a step reads of all parts: their codes; the maps one behind the other; and the seat of each part that has code.
-/// Parts that a machine starts with share their code where their texts are equal, and each that got code later has
-/// its own.
+/// Parts share their code if their texts are equal, those that a machine starts with and those that got code later: so
+/// they are run together.
+///
+/// `places` tells for the number of a text where its code was put. A part that gets code later has its place there if
+/// the code that stands there is the same: so nothing is said of `places`, and no part gets another's code by it.
 ///
 /// The map of a part that lost its code stays if it is, and so does its code. Whoever holds a machine lets go of
 /// all of it where most of its parts are left over, so that there are no more than so many of these.
@@ -31,6 +35,7 @@ pub struct DenseParts {
     pub codes: Vec<Rc<Code>>,
     pub nodes: Vec<u32>,
     pub seats: Vec<Option<Seat>>,
+    pub places: Vec<Option<u32>>,
 }
 
 impl DenseParts {
@@ -107,6 +112,7 @@ impl DenseParts {
     fn add_code(&mut self, code: &Rc<Code>) -> Result<u32, NoMemory>
         ensures more { Grows self.old self.new }
         ensures there { IfOk result (λ place. IsCodeAt self.new.codes.items place code.now.value) }
+        ensures places { self.new.places ≡ self.old.places }
     {
         let place = short(self.codes.len())?;
         let shared = code.clone()?;
@@ -152,20 +158,23 @@ impl DenseParts {
         self.seats.push_reserved(None);
     }
 
-    /// The seats of these parts, whose codes and maps come behind the others. Out of memory none came.
+    /// The seats of these parts, whose texts have these numbers. Their maps come behind the others, and so do codes that
+    /// no part had so far. Out of memory none came.
     #[tactic(auto, using(crate::proofs::DenseLemmas::dense_more, crate::proofs::DenseLemmas::dense_again))]
     pub fn seats_for(
         &mut self,
         alloc: Global,
         parts: &[MachinePart],
+        numbers: &[usize],
     ) -> Result<Vec<Option<Seat>>, NoMemory>
         requires inputs { All HasInputs parts.now }
+        requires numbered { length numbers.now ≡ length parts.now }
         ensures same { (others : List MachinePart) → AreDense others self.old → AreDense others self.new }
         ensures seats { IfOk result (λ seats. AreSeatsOf parts.now self.new.codes.items self.new.nodes.items seats.items) }
     {
         let codes = self.codes.len();
         let nodes = self.nodes.len();
-        match self.add_seats(alloc, parts) {
+        match self.add_seats(alloc, parts, numbers) {
             Ok(seats) => Ok(seats),
             Err(refused) => {
                 self.codes.truncate(codes);
@@ -175,23 +184,82 @@ impl DenseParts {
         }
     }
 
-    // The seats of these parts, whose codes and maps come behind the others.
+    // The seats of these parts, whose texts have these numbers. Maps, and codes that aren't there yet, come behind the
+    // others.
     #[tactic(auto, using(crate::proofs::DenseLemmas::grows_same, crate::proofs::DenseLemmas::no_seats))]
     fn add_seats(
         &mut self,
         alloc: Global,
         parts: &[MachinePart],
+        numbers: &[usize],
     ) -> Result<Vec<Option<Seat>>, NoMemory>
-        requires { All HasInputs parts.now }
+        requires inputs { All HasInputs parts.now }
+        requires numbered { length numbers.now ≡ length parts.now }
         ensures more { Grows self.old self.new }
         ensures seats { IfOk result (λ seats. AreSeatsOf parts.now self.new.codes.items self.new.nodes.items seats.items) }
     {
         let mut seats = Vec::with_capacity(alloc, parts.len())?;
-        for part in parts {
-            let seat = self.seat_shared(part, None, &mut [])?;
+        for (k, part) in parts.iter().enumerate() {
+            let seat = self.seat_numbered(part, numbers[k])?;
             seats.push_reserved(seat);
         }
         Ok(seats)
+    }
+
+    // The seat of a part whose text has this number. Its map comes behind the others.
+    #[tactic(auto, using(crate::proofs::DenseLemmas::grows_same, crate::proofs::DenseLemmas::grows_then))]
+    fn seat_numbered(&mut self, part: &MachinePart, number: usize) -> Result<Option<Seat>, NoMemory>
+        requires { HasInputs part.now }
+        ensures more { Grows self.old self.new }
+        ensures seat { IfOk result (IsSeatOf part.now self.new.codes.items self.new.nodes.items) }
+    {
+        let Some(code) = &part.code else {
+            return Ok(None);
+        };
+        let place = self.place_same(number, code)?;
+        let at = self.add_map(&part.map)?;
+        Ok(Some(Seat { code: place, at }))
+    }
+
+    // Where this code stands: where that of the text with this number was put, if it is the same, else behind the
+    // others, where it is put.
+    #[tactic(auto, using(crate::proofs::DenseLemmas::grows_same, crate::proofs::DenseLemmas::grows_then))]
+    fn place_same(&mut self, number: usize, code: &Rc<Code>) -> Result<u32, NoMemory>
+        ensures more { Grows self.old self.new }
+        ensures there { IfOk result (λ place. IsCodeAt self.new.codes.items place code.now.value) }
+    {
+        self.number_up_to(number)?;
+        if let Some(place) = self.places[number] {
+            if self.has_code_at(place, code) {
+                return Ok(place);
+            }
+        }
+        let place = self.add_code(code)?;
+        self.places[number] = Some(place);
+        Ok(place)
+    }
+
+    // Up to this one each number may have a place.
+    fn number_up_to(&mut self, number: usize) -> Result<(), AllocError>
+        ensures codes { self.new.codes ≡ self.old.codes }
+        ensures nodes { self.new.nodes ≡ self.old.nodes }
+        ensures seats { self.new.seats ≡ self.old.seats }
+        ensures room { OnOk result (number < length self.new.places.items) }
+    {
+        while self.places.len() <= number {
+            self.places.push(None)?;
+        }
+        Ok(())
+    }
+
+    // Whether this code stands at this place.
+    fn has_code_at(&self, place: u32, code: &Code) -> bool
+        ensures { OnTrue result (IsCodeAt self.now.codes.items place code.now) }
+    {
+        match self.codes.get(place as usize) {
+            Some(there) => is_same(there, code),
+            None => false,
+        }
     }
 
     /// Puts seats in these slots.
@@ -203,6 +271,29 @@ impl DenseParts {
     {
         put_in(slots, seats, &mut self.seats);
     }
+}
+
+// Whether both codes are the same.
+fn is_same(one: &Code, other: &Code) -> bool
+    ensures { OnTrue result (one.now ≡ other.now) }
+{
+    one.inputs() == other.inputs()
+        && are_same_instructions(one.instructions(), other.instructions())
+        && are_same_outputs(one.output_pairs(), other.output_pairs())
+}
+
+// Whether these instructions are the same.
+fn are_same_instructions(these: &[Instruction], others: &[Instruction]) -> bool
+    ensures { OnTrue result (these.now ≡ others.now) }
+{
+    these == others
+}
+
+// Whether these outputs are the same.
+fn are_same_outputs(these: &[Output], others: &[Output]) -> bool
+    ensures { OnTrue result (these.now ≡ others.now) }
+{
+    these == others
 }
 
 // A number as one of 32 bits. A larger one is lack of memory.

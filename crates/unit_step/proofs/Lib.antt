@@ -11,6 +11,7 @@ pub mod LastTextsLemmas
 pub mod LastTextsOrder
 pub mod LeavingOrder
 pub mod UsedInTurn
+pub mod FirstNumbers
 pub mod BodyLemmas
 pub mod LastTextsReadied
 pub mod DueLemmas

@@ -1,10 +1,10 @@
 -- Which texts a machine's groups had at its last build, and what an edit and a build make of that.
 -- After Beatty and Bryant, "Fast Incremental Circuit Analysis Using Extracted Hierarchy", 1988.
-use Rattle.std.specs.Prelude.{◌≡◌, ℕ, ◌<◌, ◌≤◌, min, Bool, List, [], ◌∷◌, length, map, filter, take, not, if◌then◌else◌, All, Contains, Option, None, Some, slice_get, slice_set, slice_index, slice_index_or}
+use Rattle.std.specs.Prelude.{◌≡◌, ℕ, ◌<◌, ◌≤◌, min, Bool, true, false, List, [], ◌∷◌, length, map, filter, take, not, if◌then◌else◌, All, Contains, Option, None, Some, slice_get, slice_set, slice_index, slice_index_or}
 use Rattle.std.specs.List.Sorted.{IsStrictlyIncreasing}
 use Rattle.std.specs.Option.{option_and_then}
 use Rattle.group_text.specs.Texts.{GroupTextData}
-use Rattle.group_text.specs.FirstTexts.{is_among}
+use Rattle.group_text.specs.FirstTexts.{is_among, first_texts}
 use Rattle.group_analysis.specs.Using.{used_texts, kept_after}
 use Rattle.kept_parts.specs.Uses.{UsesData, texts_used, some_texts}
 use Rattle.machine_parts.specs.declared.part.MachinePart.{MachinePart}
@@ -19,6 +19,13 @@ texts_numbered known numbers = some_texts (texts_used (record { known = known; n
 -- the texts at the last build, in order
 abbrev pub texts_of_last : List GroupTextData → LastTexts → List GroupTextData
 texts_of_last known last_texts = texts_numbered known last_texts.numbers.items
+
+-- of these numbers each that was seen has its place among the first ones: so these stand for the same texts, in the same order of first appearance,
+-- whatever text has which number
+pub record AreFirsts (numbers firsts : List (Option ℕ)) (seen : List Bool) : Type 0 where
+  pub same : (known : List GroupTextData) → first_texts (texts_numbered known firsts) ≡ first_texts (texts_numbered known numbers)
+  pub inside : (place number : ℕ) → slice_index_or firsts place None ≡ Some number → number < length seen
+  pub there : (number : ℕ) → slice_index_or seen number false ≡ true → Contains numbers (Some number)
 
 -- of so many nodes, each has the number of the text of the part that begins there, or none, but for those nodes that are noted; what stands
 -- behind the numbers of the parts is none

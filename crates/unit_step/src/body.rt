@@ -205,10 +205,12 @@ fn dense_of(alloc: Global, parts: &[MachinePart], uses: &TextUses) -> Result<Den
         codes: Vec::new(alloc),
         nodes: Vec::new(alloc),
         seats: Vec::with_capacity(alloc, parts.len())?,
+        places: Vec::new(alloc),
     };
     for (k, part) in parts.iter().enumerate() {
         let seat = dense.seat_shared(part, uses.number_of(k), &mut places)?;
         dense.seats.push_reserved(seat);
     }
+    dense.places = places;
     Ok(dense)
 }

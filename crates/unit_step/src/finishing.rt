@@ -304,7 +304,7 @@ impl Machine {
         };
         let numbers = numbers_of(alloc, &texts, &mut self.body.uses)?;
         widen_for_codes(&mut self.body.workspace, needs.values)?;
-        let seats = self.body.dense.seats_for(alloc, &parts)?;
+        let seats = self.body.dense.seats_for(alloc, &parts, &numbers)?;
         self.body.last_texts.note_all(&slots, &self.body.parts)?;
         self.body
             .readers

@@ -1,10 +1,10 @@
 //! The texts that a machine's groups had at its last build.
-ghost use Rattle.std.specs.Prelude.{◌≡◌, ℕ, ◌<◌, ◌≤◌, ◌++◌, [], None, Some, length, All, Contains, ◌⊎◌, IfOk, IsTrue, IfSome, OnOk, OnErr, slice_index_or, slice_get};
+ghost use Rattle.std.specs.Prelude.{◌≡◌, ℕ, ◌<◌, ◌≤◌, ◌++◌, ◌∷◌, Bool, List, [], Option, None, Some, length, All, Contains, ◌⊎◌, IfOk, IsTrue, IfSome, OnOk, OnErr, slice_index_or, slice_get};
 ghost use Rattle.group_text.specs.Words.{is_among, GroupTextData};
 ghost use Rattle.group_analysis.specs.Words.{used_texts, set_of};
 ghost use Rattle.analysis_cache.specs.Keeping.{texts_of};
 ghost use Rattle.machine_parts.specs.Words.{AreApart, AreOwners};
-ghost use Rattle.unit_step.specs.LastTexts.{AreLastTexts, UsesLeavers, UsesLeaver, starts_of, text_in, texts_of_last, with_beginning};
+ghost use Rattle.unit_step.specs.LastTexts.{AreFirsts, AreLastTexts, UsesLeavers, UsesLeaver, starts_of, text_in, texts_numbered, texts_of_last, with_beginning};
 ghost use Rattle.machine_laws.specs.Beginnings.{Begins, BeginsAt};
 
 use crate::seating::owner_of;
@@ -119,18 +119,73 @@ impl LastTexts {
         }
     }
 
-    // Moves all of these texts to the front of what is kept, in their order.
+    // Moves all of these texts to the front of what is kept, in their order: each once, or if there is too little memory
+    // to note which were moved, as often as it stands here, which comes to the same.
     pub(crate) fn use_all(&self, uses: &TextUses, kept: &mut Kept)
         requires inside { (node number : ℕ) → slice_index_or self.now.numbers.items node None ≡ Some number → number < length uses.now.known }
         requires kept { All (λ text. IsTrue (is_among (texts_of kept.old) text)) (texts_of_last uses.now.known self.now) }
         ensures texts { texts_of kept.new ≡ used_texts (texts_of_last uses.now.known self.now) (texts_of kept.old) }
         ensures bound { kept.new.bound ≡ kept.old.bound }
     {
-        let mut node = self.numbers.len();
-        while node > 0 {
-            node -= 1;
-            use_numbered(self.numbers[node], uses, kept);
+        let alloc = *self.numbers.allocator();
+        match firsts_of(alloc, &self.numbers, uses.known().len()) {
+            Ok(firsts) => use_each(&firsts, uses, kept),
+            Err(_) => use_each(&self.numbers, uses, kept),
         }
+    }
+}
+
+// Each of these numbers once, in the order of their first appearances. The numbers are below `count`.
+#[tactic(auto, using(crate::proofs::FirstNumbers::firsts_none))]
+fn firsts_of(
+    alloc: Global,
+    numbers: &[Option<usize>],
+    count: usize,
+) -> Result<Vec<Option<usize>>, AllocError>
+    requires { (node number : ℕ) → slice_index_or numbers.now node None ≡ Some number → number < count }
+    ensures { IfOk result (λ firsts. (seen : List Bool) × (length seen ≡ count) × AreFirsts numbers.now firsts.items seen) }
+{
+    let mut seen = vec![in alloc; false; count]?;
+    let mut firsts = Vec::new(alloc);
+    for number in numbers {
+        note_first(*number, &mut seen, &mut firsts)?;
+    }
+    Ok(firsts)
+}
+
+// Puts a number, if there is one, behind the first ones, unless it was seen.
+#[tactic(auto, using(crate::proofs::FirstNumbers::firsts_no_number, crate::proofs::FirstNumbers::firsts_seen, crate::proofs::FirstNumbers::firsts_new))]
+fn note_first(
+    number: Option<usize>,
+    seen: &mut [bool],
+    firsts: &mut Vec<Option<usize>>,
+) -> Result<(), AllocError>
+    requires { IfSome number (λ one. one < length seen.old) }
+    ensures { OnOk result ((numbers : List (Option ℕ)) → AreFirsts numbers firsts.old.items seen.old
+        → AreFirsts (numbers ++ number ∷ []) firsts.new.items seen.new) }
+{
+    let Some(one) = number else {
+        return Ok(());
+    };
+    if seen[one] {
+        return Ok(());
+    }
+    firsts.push(Some(one))?;
+    seen[one] = true;
+    Ok(())
+}
+
+// Moves the texts with these numbers to the front of what is kept, in their order.
+fn use_each(numbers: &[Option<usize>], uses: &TextUses, kept: &mut Kept)
+    requires inside { (node number : ℕ) → slice_index_or numbers.now node None ≡ Some number → number < length uses.now.known }
+    requires kept { All (λ text. IsTrue (is_among (texts_of kept.old) text)) (texts_numbered uses.now.known numbers.now) }
+    ensures texts { texts_of kept.new ≡ used_texts (texts_numbered uses.now.known numbers.now) (texts_of kept.old) }
+    ensures bound { kept.new.bound ≡ kept.old.bound }
+{
+    let mut place = numbers.len();
+    while place > 0 {
+        place -= 1;
+        use_numbered(numbers[place], uses, kept);
     }
 }
 

@@ -214,7 +214,7 @@ impl Machine {
     }
 
     /// Moves the texts that its groups had at the last build to the front of what is kept, in their order, for
-    /// what goes on without the machine. It takes no memory.
+    /// what goes on without the machine. It keeps no memory, and if there is none it only takes longer.
     ///
     /// What a build leaves is kept in the order of use, the present texts first. So long as there is a machine,
     /// only it knows their order.

@@ -5,6 +5,8 @@ use Rattle.std.specs.Vec.{with_items}
 use Rattle.std.proofs.lemmas.List.{length-map, with_items_is}
 use Rattle.std.proofs.lemmas.List.Elements.{All-weaker}
 use Rattle.smallvec.specs.SmallVec.{SmallVec}
+use Rattle.switch_paths.specs.Graphs.{GraphData}
+use Rattle.group_meaning.specs.Groups.{Group}
 use Rattle.group_text.specs.Texts.{GroupTextData, text_of_group}
 use Rattle.kept_parts.specs.Uses.{texts_used, count_distinct}
 use Rattle.machine_parts.specs.declared.part.MachinePart.{MachinePart}
@@ -71,6 +73,20 @@ left_as c noted numbers_are =
 texts_numbered : (c : In_ok-numbers) → map (slice_get c.numbers_of.new.uses.known) c.in_ok-numbers.numbers.items ≡ map Some c.args.risen.texts.items
 texts_numbered c = c.in_ok-numbers.ensures.numbers ∙ ap (map Some) c.deref-2.ensures.value
 
+-- so there is a number for each slot
+numbers_counted : (g : GraphData) (known texts : List GroupTextData) (some : List Group) (slots numbers : List ℕ) →
+    map (slice_get known) numbers ≡ map Some texts → texts ≡ map (text_of_group g) some → length some ≡ length slots → length numbers ≡ length slots
+numbers_counted g known texts some slots numbers numbered texts_are long =
+    omega (
+      arith,
+      ap length numbered,
+      length-map numbers (slice_get known),
+      length-map texts Some,
+      ap length texts_are,
+      length-map some (text_of_group g),
+      long,
+    )
+
 -- the machine with more room, and lists of the same readers
 machine_wider : (c : After-widen_for_codes) (lists : List (SmallVec ℕ)) → HaveSameReaders c.self.inside.body.readers lists →
     IsMachine c.self.inside.body.parts.items c.self.inside.body.agenda.marks c.self.inside.body.agenda.waiting (length c.self.inside.body.state.items) lists
@@ -94,9 +110,9 @@ last_texts_noted : (c : After-note_all) →
     (length c.numbers_of.new.uses.known) c.note_all.new.self
 last_texts_noted c =
     let i = c.self.inside in
-    let slots = c.deref-4.result.now in
+    let slots = c.deref-5.result.now in
     let only = subst (λ parts. (node : ℕ) → Contains c.note_all.new.self.changed.items node →
-    Contains i.body.last_texts.changed.items node ⊎ ((k : ℕ) × Contains slots k × BeginsAt parts k node)) c.deref-5.ensures.value c.note_all.ensures.only in
+    Contains i.body.last_texts.changed.items node ⊎ ((k : ℕ) × Contains slots k × BeginsAt parts k node)) c.deref-6.ensures.value c.note_all.ensures.only in
     let more = AreLastTexts-numbered i.body.parts.items i.body.uses c.numbers_of.new.uses (length i.body.state.items) i.body.last_texts c.numbers_of.ensures.numbered c.self.invariant.2 in
     AreLastTexts-noted i.body.parts.items c.numbers_of.new.uses.numbers (length i.body.state.items) (length c.numbers_of.new.uses.known) (rooms i.body.workspace)
     c.self.invariant.0.runs.seated slots i.body.last_texts c.note_all.new.self c.note_all.ensures.numbers c.note_all.ensures.stays only more
@@ -143,15 +159,24 @@ returns-in_err-seats-clause-err c =
     on_err c.from_residual-in_err-seats.result
     (left_as (goal.at.returns-in_err-seats-clause-err c).After-numbers_of c.self.inside.body.last_texts refl)
 
-pub seats_for-requires : goal.seats_for-requires
-seats_for-requires c =
-    let made = parts_made (goal.at.seats_for-requires c).In-Some in
-    rw c.deref-3.ensures.value (record { inputs = λ k d inside code has. (made.formed k d inside).inputs code has })
+pub seats_for-requires-clause-inputs : goal.seats_for-requires-clause-inputs
+seats_for-requires-clause-inputs c =
+    let made = parts_made (goal.at.seats_for-requires-clause-inputs c).In-Some in
+    rw c.deref-3.ensures.value (λ k d inside code has. (made.formed k d inside).inputs code has)
+
+pub seats_for-requires-clause-numbered : goal.seats_for-requires-clause-numbered
+seats_for-requires-clause-numbered c =
+    let found = (goal.at.seats_for-requires-clause-numbered c).In-Some in
+    let risen = risen_in found in
+    let made = parts_made found in
+    let long = numbers_counted c.args.graph.now c.numbers_of.new.uses.known c.args.risen.texts.items risen.some c.args.risen.slots.items c.in_ok-numbers.numbers.items
+    (texts_numbered (goal.at.seats_for-requires-clause-numbered c).In_ok-numbers) risen.texts made.long in
+    omega (arith, ap length c.deref-3.ensures.value, ap length c.deref-4.ensures.value, long, made.counted)
 
 pub note_all-requires-clause-inside : goal.note_all-requires-clause-inside
 note_all-requires-clause-inside c =
     let made = parts_made (goal.at.note_all-requires-clause-inside c).In-Some in
-    rw (c.deref-4.ensures.value, c.deref-5.ensures.value) made.inside
+    rw (c.deref-5.ensures.value, c.deref-6.ensures.value) made.inside
 
 pub invariant_of-self-in_err-note_all : goal.invariant_of-self-in_err-note_all
 invariant_of-self-in_err-note_all c =
@@ -170,26 +195,26 @@ returns-in_err-note_all-clause-err c =
 pub list_all-requires-clause-counted : goal.list_all-requires-clause-counted
 list_all-requires-clause-counted c =
     let made = parts_made (goal.at.list_all-requires-clause-counted c).In-Some in
-    omega (arith, ap length c.deref-7.ensures.value, ap length c.deref-6.ensures.value, made.counted)
+    omega (arith, ap length c.deref-8.ensures.value, ap length c.deref-7.ensures.value, made.counted)
 
 pub list_all-requires-clause-below : goal.list_all-requires-clause-below
 list_all-requires-clause-below c =
     let fresh = c.args.risen.parts.items in
     let made = parts_made (goal.at.list_all-requires-clause-below c).In-Some in
-    rw c.deref-7.ensures.value
+    rw c.deref-8.ensures.value
     (subst (λ n. All (λ (part : MachinePart). All (λ node. node < n) part.reads.items) fresh)
     (sym c.self.invariant.0.runs.readers_counted) made.below)
 
 pub list_all-requires-clause-once : goal.list_all-requires-clause-once
 list_all-requires-clause-once c =
-    rw c.deref-6.ensures.value (risen_in (goal.at.list_all-requires-clause-once c).In-Some).waiting.once
+    rw c.deref-7.ensures.value (risen_in (goal.at.list_all-requires-clause-once c).In-Some).waiting.once
 
 pub list_all-requires-clause-unlisted : goal.list_all-requires-clause-unlisted
 list_all-requires-clause-unlisted c =
     let found = (goal.at.list_all-requires-clause-unlisted c).In-Some in
     let i = c.self.inside in
     let risen = risen_in found in
-    rw c.deref-6.ensures.value
+    rw c.deref-7.ensures.value
     (unlisted c.args.graph.now (the_view i) (covers_in found) risen.groups risen.some c.args.risen.slots.items risen.waiting i.body.readers
     c.self.invariant.0.runs.reads)
 
@@ -210,70 +235,57 @@ returns-in_err-list_all-clause-err c =
 pub put_texts-requires-clause-inside : goal.put_texts-requires-clause-inside
 put_texts-requires-clause-inside c =
     let made = parts_made (goal.at.put_texts-requires-clause-inside c).In-Some in
-    rw c.deref-9.ensures.value
+    rw c.deref-10.ensures.value
     (λ k d inside. omega (arith, made.inside k d inside, c.self.invariant.0.numbered, ap length c.numbers_of.ensures.numbered.numbers))
 
 pub put_texts-requires-clause-counted : goal.put_texts-requires-clause-counted
 put_texts-requires-clause-counted c =
-    let g = c.args.graph.now in
     let found = (goal.at.put_texts-requires-clause-counted c).In-Some in
     let risen = risen_in found in
-    let slots = c.args.risen.slots.items in
     let made = parts_made found in
-    let numbers = c.in_ok-numbers.numbers.items in
-    let texts = c.args.risen.texts.items in
-    let numbered = texts_numbered (goal.at.put_texts-requires-clause-counted c).In_ok-numbers in
-    let long : length numbers ≡ length slots =
-    omega (
-      arith,
-      ap length numbered,
-      length-map numbers (slice_get c.numbers_of.new.uses.known),
-      length-map texts Some,
-      ap length risen.texts,
-      length-map risen.some (text_of_group g),
-      made.long,
-    ) in
-    omega (arith, ap length c.deref-10.ensures.value, ap length c.deref-9.ensures.value, long)
+    let long = numbers_counted c.args.graph.now c.numbers_of.new.uses.known c.args.risen.texts.items risen.some c.args.risen.slots.items c.in_ok-numbers.numbers.items
+    (texts_numbered (goal.at.put_texts-requires-clause-counted c).In_ok-numbers) risen.texts made.long in
+    omega (arith, ap length c.deref-11.ensures.value, ap length c.deref-10.ensures.value, long)
 
 pub put_texts-requires-clause-known : goal.put_texts-requires-clause-known
 put_texts-requires-clause-known c =
     let numbers = c.in_ok-numbers.numbers.items in
     let texts = c.args.risen.texts.items in
     let numbered = texts_numbered (goal.at.put_texts-requires-clause-known c).In_ok-numbers in
-    rw c.deref-10.ensures.value (known_inside c.numbers_of.new.uses.known numbers texts numbered)
+    rw c.deref-11.ensures.value (known_inside c.numbers_of.new.uses.known numbers texts numbered)
 
 pub put_all-requires-clause-inside : goal.put_all-requires-clause-inside
 put_all-requires-clause-inside c =
     let i = c.self.inside in
     let made = parts_made (goal.at.put_all-requires-clause-inside c).In-Some in
     let old_seats = c.seats_for.ensures.same i.body.parts.items c.self.invariant.1 in
-    rw c.deref-11.ensures.value (λ k d inside. omega (arith, made.inside k d inside, old_seats.counted))
+    rw c.deref-12.ensures.value (λ k d inside. omega (arith, made.inside k d inside, old_seats.counted))
 
 pub put_all-requires-clause-counted : goal.put_all-requires-clause-counted
 put_all-requires-clause-counted c =
     let made = parts_made (goal.at.put_all-requires-clause-counted c).In-Some in
     let fresh_seats = seats_of_fresh (goal.at.put_all-requires-clause-counted c).In_ok-seats in
-    omega (arith, ap length c.deref-11.ensures.value, made.counted, fresh_seats.counted)
+    omega (arith, ap length c.deref-12.ensures.value, made.counted, fresh_seats.counted)
 
 pub put_in-requires-clause-inside : goal.put_in-requires-clause-inside
 put_in-requires-clause-inside c =
     let made = parts_made (goal.at.put_in-requires-clause-inside c).In-Some in
-    rw (c.deref-12.ensures.value, c.deref_mut.ensures.value) made.inside
+    rw (c.deref-13.ensures.value, c.deref_mut.ensures.value) made.inside
 
 pub put_in-requires-clause-counted : goal.put_in-requires-clause-counted
 put_in-requires-clause-counted c =
     let made = parts_made (goal.at.put_in-requires-clause-counted c).In-Some in
-    omega (arith, ap length c.deref-12.ensures.value, made.counted)
+    omega (arith, ap length c.deref-13.ensures.value, made.counted)
 
 -- all but the parts that got their codes wait still
 released : (c : After-make_ready) → (k : ℕ) → IsMarked c.make_ready.new.self.waiting k ↔ (IsMarked c.self.inside.body.agenda.waiting k × (¬ Contains c.args.risen.coded.items k))
-released c = rw c.deref-13.ensures.value at c.make_ready.ensures.waiting
+released c = rw c.deref-14.ensures.value at c.make_ready.ensures.waiting
 
 pub make_ready-requires : goal.make_ready-requires
 make_ready-requires c =
     let below : All (λ k. k < length c.self.inside.body.parts.items) c.args.risen.coded.items =
     coded_below c.args.graph.now (the_view c.self.inside) c.args.risen (risen_in (goal.at.make_ready-requires c).In-Some) in
-    rw c.deref-13.ensures.value (λ i d within. omega (arith, below i d within, c.self.invariant.0.runs.counted))
+    rw c.deref-14.ensures.value (λ i d within. omega (arith, below i d within, c.self.invariant.0.runs.counted))
 
 pub invariant_of-self-2 : goal.invariant_of-self-2
 invariant_of-self-2 c =
@@ -288,13 +300,13 @@ invariant_of-self-2 c =
     let numbers = c.in_ok-numbers.numbers.items in
     let numbered = texts_numbered (goal.at.invariant_of-self-2 c).In_ok-numbers in
     let new = c.put_in.new.all in
-    let puts : Puts slots fresh i.body.parts.items new = rw (c.deref-12.ensures.value, c.deref_mut.ensures.value) at c.put_in.ensures in
+    let puts : Puts slots fresh i.body.parts.items new = rw (c.deref-13.ensures.value, c.deref_mut.ensures.value) at c.put_in.ensures in
     let text_puts : Puts slots (map Some numbers) c.numbers_of.new.uses.numbers c.put_texts.new.uses.numbers =
-    rw (c.deref-9.ensures.value, c.deref-10.ensures.value) at c.put_texts.ensures.puts in
+    rw (c.deref-10.ensures.value, c.deref-11.ensures.value) at c.put_texts.ensures.puts in
     let parts_now : List MachinePart = (with_items i.body.parts new).items in
     let final_parts = with_items_is i.body.parts new (omega (arith, c.put_in.auto.all, c.deref_mut.ensures.len)) in
     let lists_now = c.list_all.new.self in
-    let listed : ListsAll slots fresh i.body.readers lists_now = rw (c.deref-6.ensures.value, c.deref-7.ensures.value) at c.in_ok-list_all.ensures.ok in
+    let listed : ListsAll slots fresh i.body.readers lists_now = rw (c.deref-7.ensures.value, c.deref-8.ensures.value) at c.in_ok-list_all.ensures.ok in
     let wide = rooms c.widen_for_codes.new.workspace in
     let values_room : All (IsCodeRoom wide.values) fresh =
     All-weaker (IsCodeRoom c.in-Some.needs.values) (IsCodeRoom wide.values)
@@ -308,14 +320,14 @@ invariant_of-self-2 c =
     c.put_texts.new.uses.numbers i.body.held i.body.most wide) (sym final_parts) base in
     let old_seats = c.seats_for.ensures.same i.body.parts.items c.self.invariant.1 in
     let fresh_seats = seats_of_fresh (goal.at.invariant_of-self-2 c).In_ok-seats in
-    let once : AreOnce c.deref-11.result.now = subst AreOnce (sym c.deref-11.ensures.value) risen.waiting.once in
-    let seat_puts = subst (λ (list : List ℕ). Puts list fresh i.body.parts.items new) (sym c.deref-11.ensures.value) puts in
+    let once : AreOnce c.deref-12.result.now = subst AreOnce (sym c.deref-12.ensures.value) risen.waiting.once in
+    let seat_puts = subst (λ (list : List ℕ). Puts list fresh i.body.parts.items new) (sym c.deref-12.ensures.value) puts in
     let put_dense : AreDense new c.put_all.new.self = c.put_all.ensures fresh i.body.parts.items new once fresh_seats seat_puts old_seats in
     let dense = subst (λ (list : List MachinePart). AreDense list c.put_all.new.self) (sym final_parts) put_dense in
     let known = length c.numbers_of.new.uses.known in
     let are_noted = last_texts_noted (goal.at.invariant_of-self-2 c).After-note_all in
     let noted : (k node : ℕ) → Contains slots k → BeginsAt i.body.parts.items k node → Contains c.note_all.new.self.changed.items node =
-    rw (c.deref-4.ensures.value, c.deref-5.ensures.value) at c.in_ok-note_all.ensures.all in
+    rw (c.deref-5.ensures.value, c.deref-6.ensures.value) at c.in_ok-note_all.ensures.all in
     let are_last_texts = AreLastTexts-readied g (the_view i) covers risen.groups risen.some slots risen.waiting fresh made.fresh_are new puts
     c.numbers_of.new.uses.numbers c.put_texts.new.uses.numbers (map Some numbers) text_puts (length i.body.state.items) known c.note_all.new.self are_noted noted made.inside in
     let uses = c.put_texts.new.uses in
@@ -350,9 +362,9 @@ returns-clause-wakes c =
     let texts = c.args.risen.texts.items in
     let numbered = texts_numbered (goal.at.returns-clause-wakes c).In_ok-numbers in
     let new = c.put_in.new.all in
-    let puts : Puts slots fresh i.body.parts.items new = rw (c.deref-12.ensures.value, c.deref_mut.ensures.value) at c.put_in.ensures in
+    let puts : Puts slots fresh i.body.parts.items new = rw (c.deref-13.ensures.value, c.deref_mut.ensures.value) at c.put_in.ensures in
     let text_puts : Puts slots (map Some numbers) c.numbers_of.new.uses.numbers c.put_texts.new.uses.numbers =
-    rw (c.deref-9.ensures.value, c.deref-10.ensures.value) at c.put_texts.ensures.puts in
+    rw (c.deref-10.ensures.value, c.deref-11.ensures.value) at c.put_texts.ensures.puts in
     let parts_now : List MachinePart = (with_items i.body.parts new).items in
     let final_parts = with_items_is i.body.parts new (omega (arith, c.put_in.auto.all, c.deref_mut.ensures.len)) in
     let v = the_view i in
