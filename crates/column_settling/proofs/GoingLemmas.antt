@@ -1,8 +1,8 @@
 -- A column's settling, as far as all columns have come.
-use Rattle.std.proofs.Common.{◌≡◌, ◌≢◌, ℕ, ◌+◌, ◌-◌, ◌<◌, ◌≤◌, ◌⊎◌, inl, inr, List, [], ◌∷◌, refl, sym, ◌∙◌, ap, subst, arith}
+use Rattle.std.proofs.Common.{◌≡◌, ◌≢◌, ℕ, ◌+◌, ◌-◌, ◌<◌, ◌≤◌, ◌⊎◌, inl, inr, List, refl, sym, subst, arith}
 use Rattle.std.proofs.lemmas.Bool.{cases_lt}
 use Rattle.ternary.specs.declared.tern.Tern.{Tern}
-use Rattle.ternary.specs.declared.tern.Tern.TheVariants.{Zero, One, Unk}
+use Rattle.ternary.proofs.TernLemmas.{all_same_or_other}
 use Rattle.switch_paths.specs.Graphs.{GraphData}
 use Rattle.switch_paths.specs.Step.{IsStep}
 use Rattle.switch_paths.proofs.UniqueSteps.{unique}
@@ -77,35 +77,10 @@ pub record GoesOn (g : GraphData) (limit taken : ℕ) (old now : List Tern) : Ty
   pub count : ℕ
   pub going : Going g limit taken old count now
 
--- two states of a node are equal or not
-same_tern : (a b : Tern) → (a ≡ b) ⊎ (a ≢ b)
-same_tern Zero Zero = inl refl
-same_tern Zero One = inr (λ e. cc)
-same_tern Zero Unk = inr (λ e. cc)
-same_tern One Zero = inr (λ e. cc)
-same_tern One One = inl refl
-same_tern One Unk = inr (λ e. cc)
-same_tern Unk Zero = inr (λ e. cc)
-same_tern Unk One = inr (λ e. cc)
-same_tern Unk Unk = inl refl
-
--- two states are equal or not
-pub same_state : (a b : List Tern) → (a ≡ b) ⊎ (a ≢ b)
-same_state [] [] = inl refl
-same_state [] (y ∷ ys) = inr (λ e. cc)
-same_state (x ∷ xs) [] = inr (λ e. cc)
-same_state (x ∷ xs) (y ∷ ys) = elim (same_tern x y) [
-  | inl first ↦ elim (same_state xs ys) [
-    | inl rest ↦ inl (ap (λ t. t ∷ xs) first ∙ ap (λ ts. y ∷ ts) rest)
-    | inr other ↦ inr (λ e. other (let ends : xs ≡ ys = cc in ends))
-  ]
-  | inr other ↦ inr (λ e. other (let heads : x ≡ y = cc in heads))
-]
-
 -- each column goes on with a step, whether it changes or not
 pub GoesOn-steps : (g : GraphData) (limit taken : ℕ) (old now next : List Tern) → taken < limit → GoesOn g limit taken old now → IsStep g now next
     → GoesOn g limit (taken + 1) old next
-GoesOn-steps g limit taken old now next left on step = elim (same_state next now) [
+GoesOn-steps g limit taken old now next left on step = elim (all_same_or_other next now) [
   | inl same ↦ record { count = on.count; going = Going-stays g limit taken old on.count now next on.going step same }
   | inr changed ↦ record { count = on.count + 1; going = Going-moves g limit taken old on.count now next left on.going step changed }
 ]

@@ -5,6 +5,7 @@ use Rattle.std.proofs.Math.Dec.{ltb}
 use Rattle.std.proofs.lemmas.List.{ext_get_or}
 use Rattle.ternary.specs.declared.tern.Tern.{Tern}
 use Rattle.ternary.specs.declared.tern.Tern.TheVariants.{Zero}
+use Rattle.ternary.proofs.TernLemmas.{all_same_or_other}
 use Rattle.switch_paths.specs.Graphs.{GraphData}
 use Rattle.switch_paths.specs.Step.{IsStep}
 use Rattle.switch_paths.proofs.UniqueSteps.{unique}
@@ -12,7 +13,6 @@ use Rattle.settling.specs.Settling.{Stepping, IsJoinStep, Joining, Settles, Stay
 use Rattle.settling.proofs.KnownStates.{known}
 use Rattle.settling.proofs.SettlingLemmas as one
 use Rattle.column_settling.specs.Together.{StepTogether, JoinsWithin, JoinTogether, SettleTogether}
-use Rattle.column_settling.proofs.GoingLemmas.{same_state}
 
 -- a state has one joining step at most
 JoinStep-unique : (g : GraphData) (old new other : List Tern) → IsJoinStep g old new → IsJoinStep g old other → new ≡ other
@@ -81,7 +81,7 @@ JoinsOn-moves g taken old now next on step falls changed =
 -- each column goes on with a joining step, whether it changes or not
 pub JoinsOn-steps : (g : GraphData) (taken : ℕ) (old now next : List Tern) → JoinsOn g taken old now → IsJoinStep g now next → (next ≢ now → known_in next < known_in now)
     → JoinsOn g (taken + 1) old next
-JoinsOn-steps g taken old now next on step falls = elim (same_state next now) [
+JoinsOn-steps g taken old now next on step falls = elim (all_same_or_other next now) [
   | inl same ↦ JoinsOn-stays g taken old now next on step same
   | inr changed ↦ (JoinsOn-moves g taken old now next on step (falls changed) changed).0
 ]
@@ -136,7 +136,7 @@ known_in-falls old new count fades changed = one.all-falls old new count fades c
 
 -- and none has more
 pub known_in-low : (old new : List Tern) → length new ≡ length old → StaysOrBecomesX old new → known_in new ≤ known_in old
-known_in-low old new count fades = elim (same_state new old) [
+known_in-low old new count fades = elim (all_same_or_other new old) [
   | inl same ↦ omega (arith, ap known_in same)
   | inr changed ↦ omega (arith, known_in-falls old new count fades changed)
 ]
