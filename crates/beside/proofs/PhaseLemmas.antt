@@ -77,6 +77,13 @@ pub kind_of : (g : GraphData) (limit count : ℕ) (old new : List Tern) (joining
     IsReplacement g limit count old new → IsMove joining g old new
 kind_of g limit count old new joining kind move = subst (λ k. IsMove k g old new) (sym kind) move
 
+-- so a good run that stays moves
+pub stays_on : (g : GraphData) (limit number : ℕ) (start good next : List Tern) (joining : Bool) → joining ≡ not (nat_lt number limit) → good ≡ start →
+    IsTaken [] good next → IsReplacement g limit number start start → IsMove joining g good next
+stays_on g limit number start good next joining kind same taken stays =
+    let here : IsReplacement g limit number good good = subst (λ state. IsReplacement g limit number state state) (sym same) stays in
+    subst (IsMove joining g good) (sym (taken_none good next taken)) (kind_of g limit number good good joining kind here)
+
 pub plain_kind : (limit count : ℕ) → count < limit → false ≡ not (nat_lt count limit)
 plain_kind limit count less = sym (ap not (lt-ltb count limit less))
 

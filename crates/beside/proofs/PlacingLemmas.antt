@@ -16,7 +16,8 @@ use Rattle.machine_parts.specs.Parts.{Stands}
 use Rattle.machine_parts.specs.Marking.{IsMarked}
 use Rattle.machine_parts.specs.Stepping.{Concerns}
 use Rattle.machine_parts.proofs.CaseLemmas.{something}
-use Rattle.machine_laws.specs.Machines.{MachineData, Places}
+use Rattle.wide_groups.specs.Moving.{PlacesIn}
+use Rattle.machine_laws.specs.Machines.{MachineData, KeepsBuild, KeepsParts, Places}
 use Rattle.machine_laws.specs.Fitting.{IsPartOf, FitsGraph}
 use Rattle.machine_laws.proofs.FittingLemmas.{none_rest, same_machine}
 use Rattle.machine_laws.proofs.PartGroups.{member_of_part}
@@ -28,22 +29,48 @@ use Rattle.beside.specs.Laws.{PutsApart, PlacingFitsBeside}
 concerned_inside : (parts : List MachinePart) (k node : ℕ) → Concerns parts k node → k < length parts
 concerned_inside parts k node concerns = elim concerns [ inl has ↦ has.stands.inside | inr reads ↦ reads.stands.inside ]
 
--- it is placed with all parts marked too
-places_marked : (node : ℕ) (value : Tern) (old new : MachineData) → Places node value old new → Places node value (all_marked old) (all_marked new)
-places_marked node value old new places =
-    let same : replicate (length new.parts) true ≡ replicate (length old.parts) true = ap (λ (parts : List MachinePart). replicate (length parts) true) places.held.parts in
+-- a node that is placed is so with all parts marked too
+pub placed_marked : (node : ℕ) (value : Tern) (old new : MachineData) → new.state ≡ slice_set old.state node value →
+    PlacesIn node old.wide new.wide old.state new.state → KeepsBuild old new → KeepsParts old new → new.moves ≡ old.moves →
+    Places node value (all_marked old) (all_marked new)
+placed_marked node value old new state wide build held moves =
+    let same : replicate (length new.parts) true ≡ replicate (length old.parts) true = ap (λ (parts : List MachinePart). replicate (length parts) true) held.parts in
     record {
-      state = places.state;
+      state = state;
       count = ap length same;
       stays = λ k is. subst (λ marks. IsMarked marks k) (sym same) is;
       concerns = λ k concerns.
           subst (λ marks. IsMarked marks k) (sym same) (get_or-replicate (length old.parts) k true false (concerned_inside old.parts k node concerns));
       only = λ k is. inl (subst (λ marks. IsMarked marks k) same is);
-      wide = places.wide;
-      build = record { groups = places.build.groups; last = places.build.last; spare = places.build.spare };
-      held = record { parts = places.held.parts; uses = places.held.uses; texts = places.held.texts };
-      moves = places.moves;
+      wide = wide;
+      build = record { groups = build.groups; last = build.last; spare = build.spare };
+      held = record { parts = held.parts; uses = held.uses; texts = held.texts };
+      moves = moves;
     }
+
+-- a part that rests does so still if no node that concerns it moves
+pub rests_unmoved : (g h : GraphData) (good : List Tern) (apart : List Bool) (old : MachineData) (state : List Tern) → IsWired h →
+    FitsBeside g h good apart old → (k : ℕ) (part : MachinePart) → Stands old.parts k part → IsMarked apart k → (¬ IsMarked old.marks k) →
+    ((n : ℕ) → Concerns old.parts k n → state_at state n ≡ state_at old.state n) → Rests h state (take part.members part.map.items)
+rests_unmoved g h good apart old state wired fits k part stands is before stays =
+    elim (cases_lt 0 part.members) [
+      | inr none ↦ none_rest h state part.map.items part.members none
+      | inl some ↦
+          let (group, is_part) = fits.fits.covers.whole k part stands some in
+          let rested = subst (Rests h old.state) is_part.members (fits.rests k part stands is before) in
+          subst (Rests h state) (sym is_part.members)
+          (unread_group_rests h group old.state state wired is_part.is_group (responded group is_part rested) (reads_none some group is_part))
+    ]
+  where
+    responded : (group : Group) → IsPartOf h group part → Rests h old.state group.members → Responded h old.state state group.members
+    responded group is_part rests n member =
+        let (place, there) = member_of_part h group part is_part n member in
+        subst (IsResponse h old.state n) (sym (stays n (inl (record { part = part; stands = stands; place = place; member = there })))) (rests n member)
+
+    reads_none : 0 < part.members → (group : Group) → IsPartOf h group part → ReadsNoChange h group old.state state
+    reads_none some group is_part n reads =
+        let (code, has) = something part.code (λ none. before (fits.waits k (record { part = part; stands = stands; some = some; none = none }))) in
+        stays n (inr (record { part = part; stands = stands; reads = ((is_part.coded code has).reads n).1 reads }))
 
 module _ (g h : GraphData) (good : List Tern) (apart new_apart : List Bool) (node : ℕ) (value bad_value : Tern) (old new : MachineData) (wired : IsWired h)
     (fits : FitsBeside g h good apart old) (places : Places node bad_value old new) (puts : PutsApart old node apart new_apart) where
@@ -64,30 +91,9 @@ module _ (g h : GraphData) (good : List Tern) (apart new_apart : List Bool) (nod
       elim (puts.only k is) [
         | inr concerns ↦ absurd (unmarked (places.concerns k concerns))
         | inl was ↦
-            let before : ¬ IsMarked old.marks k = λ marked. unmarked (places.stays k marked) in
-            let rests = fits.rests k part stands was before in
-            elim (cases_lt 0 part.members) [
-              | inr none ↦ none_rest h new.state part.map.items part.members none
-              | inl some ↦
-                  let (group, is_part) = fits.fits.covers.whole k part stands some in
-                  subst (Rests h new.state) (sym is_part.members)
-                  (unread_group_rests h group old.state new.state wired is_part.is_group
-                  (responded part stands group is_part (subst (Rests h old.state) is_part.members rests)) (reads_none part stands some before group is_part))
-            ]
+            rests_unmoved g h good apart old new.state wired fits k part stands was (λ marked. unmarked (places.stays k marked))
+            (λ n concerns. stays_bad n (unconcerned k n unmarked concerns))
       ]
-    where
-      responded : (part : MachinePart) → Stands old.parts k part → (group : Group) → IsPartOf h group part → Rests h old.state group.members →
-          Responded h old.state new.state group.members
-      responded part stands group is_part rests n member =
-          let (place, there) = member_of_part h group part is_part n member in
-          let differs = unconcerned k n unmarked (inl (record { part = part; stands = stands; place = place; member = there })) in
-          subst (IsResponse h old.state n) (sym (stays_bad n differs)) (rests n member)
-
-      reads_none : (part : MachinePart) → Stands old.parts k part → 0 < part.members → (¬ IsMarked old.marks k) → (group : Group) → IsPartOf h group part →
-          ReadsNoChange h group old.state new.state
-      reads_none part stands some before group is_part n reads =
-          let (code, has) = something part.code (λ none. before (fits.waits k (record { part = part; stands = stands; some = some; none = none }))) in
-          stays_bad n (unconcerned k n unmarked (inr (record { part = part; stands = stands; reads = ((is_part.coded code has).reads n).1 reads })))
 
   -- the machine fits beside the run
   pub placed_beside : FitsGraph h (all_marked new) → FitsBeside g h (slice_set good node value) new_apart
@@ -113,7 +119,8 @@ module _ (g h : GraphData) (good : List Tern) (apart new_apart : List Bool) (nod
 
 pub placing_fits_beside : PlacingFitsBeside
 placing_fits_beside g h good apart new_apart node value bad_value old new wired no_rail fits places puts =
-    let all = placing_keeps_fit h node bad_value (all_marked old) (all_marked new) wired no_rail fits.fits (places_marked node bad_value old new places) in
+    let all = placing_keeps_fit h node bad_value (all_marked old) (all_marked new) wired no_rail fits.fits
+    (placed_marked node bad_value old new places.state places.wide places.build places.held places.moves) in
     subst (FitsBeside g h (slice_set good node value) new_apart)
     (same_machine old new places.build.groups places.held.parts places.held.uses places.held.texts places.build.last places.build.spare)
     (placed_beside g h good apart new_apart node value bad_value old new wired fits places puts all)

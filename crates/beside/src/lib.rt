@@ -21,4 +21,4 @@ mod placing;
 
 pub use laws::{machines_fit_beside, steps_fit_beside};
 pub use phases::settle_beside;
-pub use placing::{go_back, place_beside};
+pub use placing::{go_back, place_beside, put_apart};

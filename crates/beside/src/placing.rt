@@ -38,8 +38,8 @@ pub fn place_beside(
     machine.set_node(graph, node, bad_value);
 }
 
-// Puts the parts apart that a node concerns.
-fn put_apart(machine: &Machine, node: usize, apart: &mut NodeSet)
+/// Puts the parts apart that a node concerns.
+pub fn put_apart(machine: &Machine, node: usize, apart: &mut NodeSet)
     requires inside { node < length machine.now.state }
     requires counted { length apart.old.inside ≡ length machine.now.parts }
     ensures { PutsApart machine.now node apart.old.inside apart.new.inside }

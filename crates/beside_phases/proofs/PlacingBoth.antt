@@ -1,52 +1,25 @@
 -- A node is placed beside a run in both.
-use Rattle.std.proofs.Common.{◌≡◌, ◌≢◌, ℕ, ◌<◌, Bool, true, false, inl, inr, List, length, replicate, take, refl, sym, ap, subst, ◌∙◌}
+use Rattle.std.proofs.Common.{◌≡◌, ◌≢◌, ℕ, ◌<◌, Bool, true, inl, inr, List, length, take, refl, sym, ap, subst, ◌∙◌}
 use Rattle.std.specs.Prelude.{slice_set}
-use Rattle.std.proofs.lemmas.Bool.{cases_eq, cases_lt}
-use Rattle.std.proofs.lemmas.List.{get_or-replicate, get_or-set_other, get_or-set_same, length-set}
+use Rattle.std.proofs.lemmas.Bool.{cases_eq}
+use Rattle.std.proofs.lemmas.List.{get_or-set_other, get_or-set_same, length-set}
 use Rattle.ternary.specs.declared.tern.Tern.{Tern}
 use Rattle.ternary.specs.declared.tern.Tern.TheVariants.{Zero}
 use Rattle.switch_paths.specs.Switching.{state_at}
 use Rattle.switch_paths.specs.Graphs.{GraphData, IsWired}
-use Rattle.switch_paths.specs.Step.{IsResponse}
-use Rattle.group_meaning.specs.Groups.{Group}
-use Rattle.group_rest.specs.Rest.{Rests, Responded, ReadsNoChange}
-use Rattle.group_rest.proofs.RestingGroups.{unread_group_rests}
+use Rattle.group_rest.specs.Rest.{Rests}
 use Rattle.machine_parts.specs.declared.part.MachinePart.{MachinePart}
 use Rattle.machine_parts.specs.Parts.{Stands, IsStale}
 use Rattle.machine_parts.specs.Marking.{IsMarked}
 use Rattle.machine_parts.specs.Stepping.{Concerns}
-use Rattle.machine_parts.proofs.CaseLemmas.{something}
-use Rattle.machine_laws.specs.Machines.{MachineData, Places}
-use Rattle.machine_laws.specs.Fitting.{IsPartOf, FitsGraph}
-use Rattle.machine_laws.proofs.FittingLemmas.{none_rest}
-use Rattle.machine_laws.proofs.PartGroups.{member_of_part}
+use Rattle.machine_laws.specs.Machines.{MachineData}
+use Rattle.machine_laws.specs.Fitting.{FitsGraph}
 use Rattle.machine_laws.proofs.PlacingLemmas.{placing_keeps_fit}
 use Rattle.unit_step.specs.Among.{PlacesAmong}
 use Rattle.beside.specs.Fitting.{FitsBeside, all_marked}
 use Rattle.beside.specs.Laws.{PutsApart}
+use Rattle.beside.proofs.PlacingLemmas.{placed_marked, rests_unmoved}
 use Rattle.beside_phases.specs.Placing.{ComesApart, PlacingBothFitsBeside}
-
--- the part that a node concerns is there
-concerned_inside : (parts : List MachinePart) (k node : ℕ) → Concerns parts k node → k < length parts
-concerned_inside parts k node concerns = elim concerns [ inl has ↦ has.stands.inside | inr reads ↦ reads.stands.inside ]
-
--- it is placed with all parts marked too
-places_marked : (node : ℕ) (value : Tern) (among : List Bool) (old new : MachineData) → PlacesAmong node value among old new →
-    Places node value (all_marked old) (all_marked new)
-places_marked node value among old new places =
-    let same : replicate (length new.parts) true ≡ replicate (length old.parts) true = ap (λ (parts : List MachinePart). replicate (length parts) true) places.held.parts in
-    record {
-      state = places.state;
-      count = ap length same;
-      stays = λ k is. subst (λ marks. IsMarked marks k) (sym same) is;
-      concerns = λ k concerns.
-          subst (λ marks. IsMarked marks k) (sym same) (get_or-replicate (length old.parts) k true false (concerned_inside old.parts k node concerns));
-      only = λ k is. inl (subst (λ marks. IsMarked marks k) same is);
-      wide = places.wide;
-      build = record { groups = places.build.groups; last = places.build.last; spare = places.build.spare };
-      held = record { parts = places.held.parts; uses = places.held.uses; texts = places.held.texts };
-      moves = places.moves;
-    }
 
 module _ (g h : GraphData) (good : List Tern) (apart new_apart : List Bool) (node : ℕ) (value bad_value : Tern) (old new : MachineData) (wired : IsWired h)
     (fits : FitsBeside g h good apart old) (comes : ComesApart (value ≢ bad_value) old node apart new_apart)
@@ -69,28 +42,9 @@ module _ (g h : GraphData) (good : List Tern) (apart new_apart : List Bool) (nod
       elim (comes.only k is) [
         | inr concerns ↦ absurd (unmarked (places.concerns k concerns is))
         | inl was ↦
-            let before : ¬ IsMarked old.marks k = λ marked. unmarked (places.stays k marked) in
-            let rests = fits.rests k part stands was before in
-            elim (cases_lt 0 part.members) [
-              | inr none ↦ none_rest h new.state part.map.items part.members none
-              | inl some ↦
-                  let (group, is_part) = fits.fits.covers.whole k part stands some in
-                  subst (Rests h new.state) (sym is_part.members)
-                  (unread_group_rests h group old.state new.state wired is_part.is_group
-                  (responded group is_part (subst (Rests h old.state) is_part.members rests)) (reads_none some before group is_part))
-            ]
+            rests_unmoved g h good apart old new.state wired fits k part stands was (λ marked. unmarked (places.stays k marked))
+            (λ n concerns. stays_bad n (unconcerned k n is unmarked concerns))
       ]
-    where
-      responded : (group : Group) → IsPartOf h group part → Rests h old.state group.members → Responded h old.state new.state group.members
-      responded group is_part rests n member =
-          let (place, there) = member_of_part h group part is_part n member in
-          let differs = unconcerned k n is unmarked (inl (record { part = part; stands = stands; place = place; member = there })) in
-          subst (IsResponse h old.state n) (sym (stays_bad n differs)) (rests n member)
-
-      reads_none : 0 < part.members → (¬ IsMarked old.marks k) → (group : Group) → IsPartOf h group part → ReadsNoChange h group old.state new.state
-      reads_none some before group is_part n reads =
-          let (code, has) = something part.code (λ none. before (fits.waits k (record { part = part; stands = stands; some = some; none = none }))) in
-          stays_bad n (unconcerned k n is unmarked (inr (record { part = part; stands = stands; reads = ((is_part.coded code has).reads n).1 reads })))
 
   -- what differs at the node was placed at two values
   two_values : node < length old.state → state_at new.state node ≢ state_at (slice_set good node value) node → value ≢ bad_value
@@ -127,7 +81,8 @@ module _ (g h : GraphData) (good : List Tern) (apart new_apart : List Bool) (nod
 pub placing_both : PlacingBothFitsBeside
 placing_both g h good apart new_apart node value bad_value old new wired no_rail inside fits comes places =
     placed_both g h good apart new_apart node value bad_value old new wired fits comes places inside
-    (placing_keeps_fit h node bad_value (all_marked old) (all_marked new) wired no_rail fits.fits (places_marked node bad_value new_apart old new places))
+    (placing_keeps_fit h node bad_value (all_marked old) (all_marked new) wired no_rail fits.fits
+    (placed_marked node bad_value old new places.state places.wide places.build places.held places.moves))
 
 -- none comes apart
 pub comes_none : (Differs : Type 0) (m : MachineData) (node : ℕ) (apart : List Bool) → (¬ Differs) → ComesApart Differs m node apart apart

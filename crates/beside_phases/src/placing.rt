@@ -1,12 +1,11 @@
 //! A node that is placed in both runs.
-ghost use Rattle.std.specs.Prelude.{◌≡◌, ℕ, ◌<◌, ◌≤◌, Some, true, length, Contains};
+ghost use Rattle.std.specs.Prelude.{◌≡◌, ◌<◌, ◌≤◌, true, length};
 ghost use Rattle.std.specs.Bool.{OnFalse};
 ghost use Rattle.switch_paths.specs.declared.TheConstants.{RAILS};
-ghost use Rattle.machine_parts.specs.Marking.{MarksAll};
 ghost use Rattle.beside.specs.Fitting.{FitsBeside};
-ghost use Rattle.beside.specs.Laws.{PutsApart};
 ghost use Rattle.beside_phases.specs.Placing.{ComesApart, PlacesBoth};
 
+use beside::put_apart;
 use switch_paths::{Graph, graphs_are_wired};
 use ternary::Tern;
 use unit_step::Machine;
@@ -52,34 +51,4 @@ fn separate(machine: &Machine, node: usize, differs: bool, apart: &mut NodeSet)
         return;
     }
     put_apart(machine, node, apart);
-}
-
-// Puts the parts apart that a node concerns.
-fn put_apart(machine: &Machine, node: usize, apart: &mut NodeSet)
-    requires inside { node < length machine.now.state }
-    requires counted { length apart.old.inside ≡ length machine.now.parts }
-    ensures { PutsApart machine.now node apart.old.inside apart.new.inside }
-{
-    put_owner(machine.owner_at(node), apart);
-    put_all(machine.readers_at(node), apart);
-}
-
-// Puts a part in, if there is one.
-fn put_owner(owner: Option<usize>, apart: &mut NodeSet)
-    requires { (k : ℕ) → owner ≡ Some k → k < length apart.old.inside }
-    ensures { MarksAll (λ k. owner ≡ Some k) apart.old.inside apart.new.inside }
-{
-    if let Some(k) = owner {
-        apart.insert(k);
-    }
-}
-
-// Puts all of these parts in.
-fn put_all(parts: &[usize], apart: &mut NodeSet)
-    requires { (k : ℕ) → Contains parts.now k → k < length apart.old.inside }
-    ensures { MarksAll (Contains parts.now) apart.old.inside apart.new.inside }
-{
-    for &k in parts {
-        apart.insert(k);
-    }
 }
