@@ -1,5 +1,5 @@
 -- What a stage serves that was built: its machine fits as long as the states move by the model's steps, and the texts stand in front.
-use Rattle.std.proofs.Common.{◌≡◌, ℕ, ◌⊎◌, inl, inr, true, List, [], Option, None, sym, subst, ◌∙◌}
+use Rattle.std.proofs.Common.{◌≡◌, ℕ, ◌⊎◌, inl, inr, true, List, [], Option, None, refl, sym, subst, ◌∙◌}
 use Rattle.switch_paths.specs.Graphs.{GraphData}
 use Rattle.group_text.specs.Texts.{GroupTextData}
 use Rattle.group_analysis.specs.Using.{used_texts}
@@ -9,6 +9,10 @@ use Rattle.circuit_texts.specs.declared.texts.BuildFault.TheVariants as build
 use Rattle.circuit_texts.specs.Sizes.{TellsRefused}
 use Rattle.circuit_texts.specs.Building.{Builds}
 use Rattle.column_stage.specs.Standing.{IsCutInColumns}
+use Rattle.decision_graph.specs.declared.vertex.Function.{Function}
+use Rattle.truth_makers.specs.declared.symbols.Symbols.{Symbols}
+use Rattle.truth_makers.specs.Makers.{columns_in, function_holds}
+use Rattle.truth_machine.specs.Machines.{TruthData, FitsInMachine}
 use Rattle.truth_machine.specs.Symbols.{MakesMore}
 use Rattle.column_stage.proofs.FrontLemmas.{kept_alone}
 use Rattle.column_stage.proofs.StandingLemmas.{built_stands_first, first_builds, stands_cut}
@@ -21,9 +25,19 @@ module _ (old new : StageData) (same : new.built ≡ old.built) where
       let was = serves (sym same ∙ built) in
       record { fits = fits was.fits; known = was.known }
 
-  -- so where the maker made more
-  pub serves_more : MakesMore old.machine new.machine → (g : GraphData) (kept : List GroupTextData) → ServesIn old g kept → ServesIn new g kept
-  serves_more makes g kept serves = serves_still g (makes.fits g) kept serves
+-- a stage that was so, which goes on with another machine and without room
+module _ {was now : StageData} (is : was ≡ now) (later : TruthData Function Symbols) where
+  -- what fitted a graph fits it still, and serves it
+  pub serves_next : (g : GraphData) → (FitsIn was g → FitsInMachine columns_in function_holds g later) → (kept : List GroupTextData) → ServesIn now g kept →
+      ServesIn (record { machine = later; built = was.built; spare = 0 }) g kept
+  serves_next g fits kept serves =
+      serves_still was (record { machine = later; built = was.built; spare = 0 }) refl g fits kept
+      (subst (λ (stage : StageData). ServesIn stage g kept) (sym is) serves)
+
+  -- so if the maker made more
+  pub serves_made : MakesMore was.machine later → (g : GraphData) (kept : List GroupTextData) → ServesIn now g kept →
+      ServesIn (record { machine = later; built = was.built; spare = 0 }) g kept
+  serves_made makes g = serves_next g (makes.fits g)
 
 module _ (g : GraphData) (kept : List GroupTextData) (stage : StageData) (serves : ServesIn stage g kept) where
   -- one that was built has what a build wants

@@ -35,6 +35,10 @@ module _ (old new : StageData) (same : new.machine ≡ old.machine) where
   pub fits_same : (g : GraphData) → FitsIn old g → FitsIn new g
   fits_same g fits = subst (λ (m : TruthData Function Symbols). FitsInMachine columns_in function_holds g m) (sym same) fits
 
+-- what fits fitted as it was
+pub fits_seen : {was now : StageData} → was ≡ now → (g : GraphData) → FitsIn now g → FitsIn was g
+fits_seen is g fits = subst (λ (stage : StageData). FitsIn stage g) (sym is) fits
+
 -- ---- the same maker and rails
 
 module _ (old new : StageData) (same : new.machine.maker ≡ old.machine.maker) where
@@ -76,6 +80,15 @@ given_kept old new kept bound = record {
   same = λ given column is inside. ap₂ columns.state_with (kept.stays given.hi column is.high inside) (kept.stays given.lo column is.low inside);
   bounded = bound;
 }
+
+-- so where it was such a stage, which goes on with another machine and without room
+pub given_next : {was now : StageData} → was ≡ now → (later : TruthData Function Symbols) →
+    AreKept (columns_in was.machine.maker) (IsFunctionOf was.machine.maker) (function_holds was.machine.maker)
+    (columns_in later.maker) (IsFunctionOf later.maker) (function_holds later.maker) → bound_of later.maker ≡ bound_in was →
+    KeepsGiven columns_on GivesLetters letter_given bound_in now (record { machine = later; built = was.built; spare = 0 })
+given_next {was} is later kept bound =
+    let next : StageData = record { machine = later; built = was.built; spare = 0 } in
+    subst (λ (stage : StageData). KeepsGiven columns_on GivesLetters letter_given bound_in stage next) is (given_kept was next kept bound)
 
 -- so has one that is the same
 pub given_same : (old new : StageData) → new.machine ≡ old.machine → KeepsGiven columns_on GivesLetters letter_given bound_in old new

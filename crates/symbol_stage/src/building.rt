@@ -1,14 +1,7 @@
 //! The build of what moves the states.
 ghost use Rattle.std.specs.Prelude.{◌≡◌, ◌⊎◌, true, Err, None, IfErr, IfOk, OnErr, OnOk};
 ghost use Rattle.std.specs.Bool.{OnTrue};
-ghost use Rattle.switch_paths.specs.Words.{nodes, IsRailed};
-ghost use Rattle.analysis_cache.specs.Keeping.{texts_of};
-ghost use Rattle.circuit_texts.specs.Sizes.{TellsRefused};
-ghost use Rattle.circuit_texts.specs.Building.{Builds};
-ghost use Rattle.column_stage.specs.Standing.{IsCutInColumns};
-ghost use Rattle.column_stage.specs.Columns.{AreSound};
-ghost use Rattle.truth_makers.specs.Makers.{IsFunctionOf};
-ghost use Rattle.truth_machine.specs.Gears.{IsGear};
+ghost use Rattle.symbol_stage.specs.Words.{nodes, texts_of, AreSound, Builds, IsCutInColumns, IsFunctionOf, IsGear, IsRailed, TellsRefused};
 ghost use Rattle.symbol_stage.specs.Stages.{FitsIn, ServesIn, columns_on, states_in};
 
 use crate::SymbolStage;

@@ -1,9 +1,7 @@
 //! A maker of its own for the functions that are still wanted.
 ghost use Rattle.std.specs.Prelude.{◌≡◌, ℕ, ◌<◌, ◌≤◌, ◌++◌, List, length, take, drop, All, IfOk, OnErr, OnOk};
-ghost use Rattle.switch_paths.specs.Graphs.{GraphData};
-ghost use Rattle.group_text.specs.Texts.{GroupTextData};
 ghost use Rattle.truth_columns.specs.Columns.{HasColumn};
-ghost use Rattle.truth_makers.specs.Makers.{columns_in, function_holds, IsFunctionOf};
+ghost use Rattle.symbol_stage.specs.Words.{columns_in, function_holds, GraphData, GroupTextData, IsFunctionOf};
 ghost use Rattle.truth_machine.specs.Machines.{column_of, FitsInMachine};
 ghost use Rattle.symbol_stage.specs.Compacting.{AreMoved, IsMoved};
 ghost use Rattle.symbol_stage.specs.Stages.{FitsIn, ServesIn, columns_on, states_in};

@@ -1,14 +1,8 @@
 //! Functions that the stage's maker makes; under each valuation the states stay.
 ghost use Rattle.std.specs.Prelude.{◌≡◌, ℕ, ◌<◌, ◌≤◌, ◌||◌, Bool, not, List, length, IfErr, IfOk};
-ghost use Rattle.switch_paths.specs.Graphs.{GraphData};
-ghost use Rattle.group_text.specs.Texts.{GroupTextData};
 ghost use Rattle.decision_graph.specs.Meaning.{holds};
 ghost use Rattle.decision_graph.specs.declared.graph.GraphFault.TheVariants as fault;
-ghost use Rattle.formula_functions.specs.Tables.{AreInside, named_under};
-ghost use Rattle.formula_functions.specs.Truths.{truth_of};
-ghost use Rattle.truth_makers.specs.Expecting.{IsMissed, state_of_truth};
-ghost use Rattle.truth_makers.specs.Valuations.{valuation_of};
-ghost use Rattle.truth_machine.specs.Symbols.{MakesMore};
+ghost use Rattle.symbol_stage.specs.Words.{named_under, state_of_truth, truth_of, valuation_of, AreInside, GraphData, GroupTextData, IsMissed, MakesMore};
 ghost use Rattle.symbol_stage.specs.Given.{GivesLetters, letter_given};
 ghost use Rattle.symbol_stage.specs.Stages.{ServesIn, columns_on};
 

@@ -4,14 +4,9 @@ ghost use Rattle.ternary.specs.declared.tern.Tern.TheVariants.{Zero, One, Unk};
 ghost use Rattle.ternary.specs.Tern.{may_one, may_zero};
 ghost use Rattle.switch_paths.specs.declared.TheConstants.{RAILS};
 ghost use Rattle.switch_paths.specs.Switching.{state_at};
-ghost use Rattle.switch_paths.specs.Words.{IsStep};
 ghost use Rattle.settling.specs.declared.settling.TheConstants.{MOST_LIMIT};
-ghost use Rattle.group_text.specs.Texts.{GroupTextData};
 ghost use Rattle.column_settling.specs.Together.{SettleTogether};
-ghost use Rattle.truth_makers.specs.Makers.{function_holds, IsFunctionOf, IsSpent};
-ghost use Rattle.truth_parts.specs.Columns.{AreColumns, HasStates};
-ghost use Rattle.truth_machine.specs.Moving.{PlacesTruths};
-ghost use Rattle.column_stage.specs.Truths.{KeepsGiven};
+ghost use Rattle.symbol_stage.specs.Words.{function_holds, AreColumns, GroupTextData, HasStates, IsFunctionOf, IsSpent, IsStep, KeepsGiven, PlacesTruths};
 ghost use Rattle.symbol_stage.specs.Given.{GivesLetters, letter_given};
 ghost use Rattle.symbol_stage.specs.Stages.{FitsIn, ServesIn, bound_in, columns_on, states_in};
 

@@ -1,9 +1,6 @@
 //! The graph of functions is kept small: what nothing needs any more is let go once it has grown.
 ghost use Rattle.std.specs.Prelude.{◌≡◌, ℕ, ◌+◌, ◌*◌, ◌/◌, ◌<◌, ◌≤◌, ◌++◌, false, List, length, take, drop, All, IfOk};
-ghost use Rattle.switch_paths.specs.Graphs.{GraphData};
-ghost use Rattle.group_text.specs.Texts.{GroupTextData};
-ghost use Rattle.formula_functions.specs.Tables.{table_of};
-ghost use Rattle.truth_makers.specs.Makers.{IsFunctionOf};
+ghost use Rattle.symbol_stage.specs.Words.{table_of, GraphData, GroupTextData, IsFunctionOf};
 ghost use Rattle.symbol_stage.specs.Compacting.{IsTidied};
 ghost use Rattle.symbol_stage.specs.Stages.{ServesIn};
 

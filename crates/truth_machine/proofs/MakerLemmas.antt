@@ -14,7 +14,7 @@ use Rattle.truth_makers.specs.Makers.{columns_in, function_holds, IsFunctionOf}
 use Rattle.truth_makers.proofs.SymbolLemmas.{functions-kept}
 use Rattle.truth_parts.specs.declared.workspace.Workspace.{Workspace}
 use Rattle.truth_parts.specs.Columns.{AreColumns}
-use Rattle.truth_parts.specs.Evaluating.{Rooms, IsWorkspace, IsSeated, HasRoomFor}
+use Rattle.truth_parts.specs.Evaluating.{Rooms, rooms, IsWorkspace, IsSeated, HasRoomFor}
 use Rattle.truth_parts.specs.Fitting.{HasFit}
 use Rattle.truth_parts.specs.Stepping.{IsRunnable}
 use Rattle.truth_machine.specs.Machines.{IsTruthMachine, TruthData, column_of, FitsInMachine}
@@ -76,7 +76,7 @@ module _ (old new : graph.GraphData) (shape : graph.SameShape old new) (extends 
   makers-kept = functions-kept old.variables new.variables old.vertices new.vertices shape.variables extends
 
   -- and room for a step has functions of it
-  pub IsWorkspace-made : (workspace : Workspace Function) → IsWorkspace (IsFunctionOf (maker_of old)) workspace →
+  IsWorkspace-made : (workspace : Workspace Function) → IsWorkspace (IsFunctionOf (maker_of old)) workspace →
       IsWorkspace (IsFunctionOf (maker_of new)) workspace
   IsWorkspace-made workspace is = record {
     even = is.even;
@@ -92,7 +92,7 @@ module _ (old new : graph.GraphData) (shape : graph.SameShape old new) (extends 
     rests = record { parts = refl; marks = refl; highs = refl; lows = refl }
 
     -- the machine is as before over such a maker
-    pub makes_more : MakesMore (machine_of old parts marks hi lo) (machine_of new parts marks hi lo)
+    makes_more : MakesMore (machine_of old parts marks hi lo) (machine_of new parts marks hi lo)
     makes_more = record {
       shape = shape;
       extends = extends;
@@ -104,7 +104,7 @@ module _ (old new : graph.GraphData) (shape : graph.SameShape old new) (extends 
     }
 
     -- and a machine over truths
-    pub IsTruthMachine-made_more : (readers owners : List (Vec ℕ Global)) (room : Rooms) →
+    IsTruthMachine-made_more : (readers owners : List (Vec ℕ Global)) (room : Rooms) →
         IsTruthMachine (columns_in (maker_of old)) (IsFunctionOf (maker_of old)) (function_holds (maker_of old)) parts marks readers owners hi lo room →
         IsTruthMachine (columns_in (maker_of new)) (IsFunctionOf (maker_of new)) (function_holds (maker_of new)) parts marks readers owners hi lo room
     IsTruthMachine-made_more readers owners room machine =
@@ -112,3 +112,18 @@ module _ (old new : graph.GraphData) (shape : graph.SameShape old new) (extends 
         (columns_in (maker_of new)) (IsFunctionOf (maker_of new)) (function_holds (maker_of new)) parts marks marks readers owners hi lo hi lo room room refl refl refl
         (AreColumns-rest columns_in IsFunctionOf function_holds (machine_of old parts marks hi lo) (machine_of new parts marks hi lo) makers-kept highs lows are rests)
         (All-kept _ _ _ _ _ _ hi makers-kept highs) (All-kept _ _ _ _ _ _ lo makers-kept lows) machine
+
+  -- a machine over such a maker is one still, with its room for a step
+  module _ {parts : List MachinePart} {marks : List Bool} {hi lo : List Function} {readers owners : List (Vec ℕ Global)} {workspace : Workspace Function}
+      (whole : IsTruthMachine (columns_in (maker_of old)) (IsFunctionOf (maker_of old)) (function_holds (maker_of old)) parts marks readers owners hi lo (rooms workspace)
+      × IsWorkspace (IsFunctionOf (maker_of old)) workspace) where
+    pub stays_whole : IsTruthMachine (columns_in (maker_of new)) (IsFunctionOf (maker_of new)) (function_holds (maker_of new)) parts marks readers owners hi lo (rooms workspace)
+        × IsWorkspace (IsFunctionOf (maker_of new)) workspace
+    stays_whole = (
+      IsTruthMachine-made_more parts marks hi lo whole.0.columns whole.0.highs whole.0.lows readers owners (rooms workspace) whole.0,
+      IsWorkspace-made workspace whole.1,
+    )
+
+    -- and as before else
+    pub whole_makes : MakesMore (machine_of old parts marks hi lo) (machine_of new parts marks hi lo)
+    whole_makes = makes_more parts marks hi lo whole.0.columns whole.0.highs whole.0.lows

@@ -1,15 +1,20 @@
 -- A later maker has all truths that there were, and what was noted of them is so still.
 use Rattle.std.proofs.Common.{◌≡◌, ℕ, ◌<◌, Bool, List, All, inl, inr, sym, ap, ap₂, ◌∙◌, arith}
 use Rattle.std.proofs.lemmas.List.Elements.{All-contains}
+use Rattle.std.proofs.lemmas.Result.{err_from_is_err_and}
 use Rattle.ternary.specs.declared.tern.Tern.{Tern}
 use Rattle.machine_parts.specs.declared.part.MachinePart.{MachinePart}
 use Rattle.truth_columns.specs.Columns.{AreKept, HasColumn}
 use Rattle.truth_columns.proofs.ColumnLemmas.{values_in-kept}
-use Rattle.std.specs.Prelude.{slice_index_or, slice_index, false}
+use Rattle.std.specs.Prelude.{slice_index_or, slice_index, false, Result, IfErr, IsErrAnd}
 use Rattle.truth_parts.specs.declared.workspace.TruthChange.{TruthChange}
 use Rattle.truth_parts.specs.Columns.{rail_in, IsColumn}
 use Rattle.truth_parts.specs.Noting.{after_rail, Differs, IsIdle, IsNextOf, IsOf, Notes}
 use Rattle.truth_parts.specs.Evaluating.{Evaluated, IsMadeBy, NotesAll}
+
+-- what a fault tells that is passed on is so still
+pub passed_on : {T E : Type 0} (P : E → Type 0) (r : Result T E) (e : E) → IsErrAnd r (λ y. y ≡ e) → P e → IfErr r P
+passed_on P r e is holds = let p = err_from_is_err_and r is in rw (p.1, p.2) holds
 
 module _ {A : Type 0} (n m : ℕ) (P Q : A → Type 0) (f g : A → ℕ → Bool) (kept : AreKept n P f m Q g) where
   -- all changes are of the later maker

@@ -1,6 +1,5 @@
 -- A part with code fits the room, and what its code gives is noted.
 use Rattle.std.proofs.Common.{◌≡◌, ◌<◌, ◌∙◌, ℕ, List, length, map, take, sym, ap, subst, Vec, Global, arith}
-use Rattle.std.proofs.lemmas.Result.{err_from_is_err_and}
 use Rattle.std.proofs.lemmas.List.{length-take-le}
 use Rattle.std.proofs.lemmas.List.Elements.{All-take}
 use Rattle.ternary.specs.declared.tern.Tern.{Tern}
@@ -11,7 +10,7 @@ use Rattle.truth_columns.proofs.ColumnLemmas.{All-kept, AreKept-trans}
 use Rattle.truth_parts.specs.declared.workspace.TruthChange.{TruthChange}
 use Rattle.truth_parts.specs.Noting.{Notes}
 use Rattle.truth_parts.specs.Evaluating.{Rooms}
-use Rattle.truth_parts.proofs.KeptLemmas.{AreOf-kept, HasColumn-kept, IsColumn-before}
+use Rattle.truth_parts.proofs.KeptLemmas.{AreOf-kept, HasColumn-kept, IsColumn-before, passed_on}
 use Rattle.truth_parts.proofs.EvaluationLemmas.{Reports-from_Notes}
 use Rattle.truth_parts.proofs.evaluation.evaluate.Goals as goal
 
@@ -39,17 +38,14 @@ note_outputs-requires-clause-room g c = rw c.run_part.ensures.changes c.requires
 
 pub returns-in_ok-note_outputs-in-Some-clause-changes : goal.returns-in_ok-note_outputs-in-Some-clause-changes
 returns-in_ok-note_outputs-in-Some-clause-changes g c = λ parts k stands.
-    let part = c.args.part.now in
     let code = c.in-Some.code in
+    let part = c.args.part.now in
     let seat = c.requires.seated.seated in
     let hi = c.args.hi.now in
     let lo = c.args.lo.now in
-    let old = c.args.truths.now in
+    let highs = c.run_part.new.workspace.out_hi.items in
     let mid = c.run_part.new.truths in
     let new = c.note_outputs.new.truths in
-    let first = c.run_part.ensures.kept in
-    let second = c.note_outputs.ensures.kept in
-    let highs = c.run_part.new.workspace.out_hi.items in
     let lows = c.run_part.new.workspace.out_lo.items in
     let ones = take part.members highs in
     let others = take part.members lows in
@@ -57,13 +53,13 @@ returns-in_ok-note_outputs-in-Some-clause-changes g c = λ parts k stands.
     let values : List Tern → List Tern = λ state. code_value code.value (map (state_at state) part.map.items) in
     let given : (column : ℕ) (state : List Tern) → column < g.T.Truths.columns new → HasColumn (g.T.Truths.holds new) column hi lo state →
     HasColumn (g.T.Truths.holds new) column ones others (code_value code.value (map (state_at state) part.map.items)) = λ column state inside has.
-    let mid_inside : column < g.T.Truths.columns mid = omega (arith, inside, second.count) in
-    let old_inside : column < g.T.Truths.columns old = omega (arith, mid_inside, first.count) in
-    let before = IsColumn-before _ _ _ _ _ _ (AreKept-trans _ _ _ _ _ _ _ _ _ first second) hi lo c.requires.highs c.requires.lows column state
+    let mid_inside : column < g.T.Truths.columns mid = omega (arith, inside, c.note_outputs.ensures.kept.count) in
+    let old_inside : column < g.T.Truths.columns c.args.truths.now = omega (arith, mid_inside, c.run_part.ensures.kept.count) in
+    let before = IsColumn-before _ _ _ _ _ _ (AreKept-trans _ _ _ _ _ _ _ _ _ c.run_part.ensures.kept c.note_outputs.ensures.kept) hi lo c.requires.highs c.requires.lows column state
     (record { inside = inside; has = has }) in
     let value : HasColumn (g.T.Truths.holds mid) column (take (length code.value.outputs) highs) (take (length code.value.outputs) lows) (values state) =
     rw (c.deref.ensures, c.deref-in-Some.ensures.value) at c.in_ok-run_part-in-Some.ensures.value column state old_inside before.has in
-    HasColumn-kept _ _ _ _ _ _ second ones others (All-take (g.T.Truths.has mid) part.members highs workspace.highs) (All-take (g.T.Truths.has mid) part.members lows workspace.lows) column (values state) mid_inside
+    HasColumn-kept _ _ _ _ _ _ c.note_outputs.ensures.kept ones others (All-take (g.T.Truths.has mid) part.members highs workspace.highs) (All-take (g.T.Truths.has mid) part.members lows workspace.lows) column (values state) mid_inside
     (subst (λ n. HasColumn (g.T.Truths.holds mid) column (take n highs) (take n lows) (values state)) (seat.coded code c.in-Some.is).outputs value) in
     let room : length highs ≡ length c.args.workspace.now.out_hi.items = ap (λ (room : Rooms). room.outs) c.run_part.ensures.rooms in
     let high_count : length ones ≡ part.members = length-take-le part.members highs (omega (arith, c.requires.seated.out_room, room)) in
@@ -78,13 +74,8 @@ returns-in_ok-note_outputs-in-Some-clause-changes g c = λ parts k stands.
     seat.below ones others high_count (low_count ∙ sym high_count) given c.args.workspace.now.changes.items
     c.note_outputs.new.workspace.changes.items notes
 
--- what a fault tells that is passed on is so still
 pub returns-in_err-run_part-in-Some-clause-spent : goal.returns-in_err-run_part-in-Some-clause-spent
-returns-in_err-run_part-in-Some-clause-spent g c =
-    let p = err_from_is_err_and c.from_residual.result c.from_residual.ensures.1 in
-    rw (p.1, p.2) c.in_err-run_part-in-Some.ensures.spent
+returns-in_err-run_part-in-Some-clause-spent g c = passed_on _ c.from_residual.result _ c.from_residual.ensures.1 c.in_err-run_part-in-Some.ensures.spent
 
 pub returns-in_err-note_outputs-in-Some-clause-spent : goal.returns-in_err-note_outputs-in-Some-clause-spent
-returns-in_err-note_outputs-in-Some-clause-spent g c =
-    let p = err_from_is_err_and c.from_residual-in_err-note_outputs-in-Some.result c.from_residual-in_err-note_outputs-in-Some.ensures.1 in
-    rw (p.1, p.2) c.in_err-note_outputs-in-Some.ensures.spent
+returns-in_err-note_outputs-in-Some-clause-spent g c = passed_on _ c.from_residual-in_err-note_outputs-in-Some.result _ c.from_residual-in_err-note_outputs-in-Some.ensures.1 c.in_err-note_outputs-in-Some.ensures.spent

@@ -1,10 +1,10 @@
 -- In each column the code runs on the inputs' states, and the outputs have its rails.
 use Rattle.std.proofs.Common.{◌≡◌, ◌+◌, ◌*◌, ◌<◌, length, map, take, sym, ap, ◌∙◌, arith}
-use Rattle.std.proofs.lemmas.Result.{err_from_is_err_and}
 use Rattle.std.proofs.lemmas.List.{length-map}
 use Rattle.switch_paths.specs.Switching.{state_at}
 use Rattle.truth_columns.specs.Columns.{values_in}
 use Rattle.truth_columns.proofs.ColumnLemmas.{All-kept}
+use Rattle.truth_parts.proofs.KeptLemmas.{passed_on}
 use Rattle.truth_parts.proofs.evaluation.run_front.Goals as goal
 
 pub write_outputs-requires-clause-high_has : goal.write_outputs-requires-clause-high_has
@@ -35,13 +35,8 @@ returns-in_err-run_steps-clause-low_has g c = All-kept _ _ _ _ _ _ c.args.out_lo
 pub returns-in_err-write_outputs-clause-values_has : goal.returns-in_err-write_outputs-clause-values_has
 returns-in_err-write_outputs-clause-values_has g c = All-kept _ _ _ _ _ _ c.run_steps.new.values c.write_outputs.ensures.kept c.run_steps.ensures.has
 
--- what a fault tells that is passed on is so still
 pub returns-in_err-run_steps-clause-spent : goal.returns-in_err-run_steps-clause-spent
-returns-in_err-run_steps-clause-spent g c =
-    let p = err_from_is_err_and c.from_residual.result c.from_residual.ensures.1 in
-    rw (p.1, p.2) c.in_err-run_steps.ensures.spent
+returns-in_err-run_steps-clause-spent g c = passed_on _ c.from_residual.result _ c.from_residual.ensures.1 c.in_err-run_steps.ensures.spent
 
 pub returns-in_err-write_outputs-clause-spent : goal.returns-in_err-write_outputs-clause-spent
-returns-in_err-write_outputs-clause-spent g c =
-    let p = err_from_is_err_and c.from_residual-in_err-write_outputs.result c.from_residual-in_err-write_outputs.ensures.1 in
-    rw (p.1, p.2) c.in_err-write_outputs.ensures.spent
+returns-in_err-write_outputs-clause-spent g c = passed_on _ c.from_residual-in_err-write_outputs.result _ c.from_residual-in_err-write_outputs.ensures.1 c.in_err-write_outputs.ensures.spent

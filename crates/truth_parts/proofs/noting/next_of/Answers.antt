@@ -1,8 +1,7 @@
 -- The next rails are those that are given, and they are the old ones or differ from them in some column.
 use Rattle.std.proofs.Common.{refl, sym, ◌∙◌}
-use Rattle.std.proofs.lemmas.Result.{err_from_is_err_and}
 use Rattle.std.proofs.lemmas.Bool.{OnTrue_at}
-use Rattle.truth_parts.proofs.KeptLemmas.{rail-given, rail-later}
+use Rattle.truth_parts.proofs.KeptLemmas.{rail-given, rail-later, passed_on}
 use Rattle.truth_parts.proofs.noting.next_of.Goals as goal
 
 pub returns-then-are_alike-clause-stays : goal.returns-then-are_alike-clause-stays
@@ -39,13 +38,8 @@ returns-clause-changes g c =
       unlike = c.are_alike.ensures.unlike c.if-are_alike.false;
     }
 
--- what a fault tells that is passed on is so still
 pub returns-in_err-next_hi-clause-spent : goal.returns-in_err-next_hi-clause-spent
-returns-in_err-next_hi-clause-spent g c =
-    let p = err_from_is_err_and c.from_residual.result c.from_residual.ensures.1 in
-    rw (p.1, p.2) c.in_err-next_hi.ensures.spent
+returns-in_err-next_hi-clause-spent g c = passed_on _ c.from_residual.result _ c.from_residual.ensures.1 c.in_err-next_hi.ensures.spent
 
 pub returns-in_err-next_lo-clause-spent : goal.returns-in_err-next_lo-clause-spent
-returns-in_err-next_lo-clause-spent g c =
-    let p = err_from_is_err_and c.from_residual-in_err-next_lo.result c.from_residual-in_err-next_lo.ensures.1 in
-    rw (p.1, p.2) c.in_err-next_lo.ensures.spent
+returns-in_err-next_lo-clause-spent g c = passed_on _ c.from_residual-in_err-next_lo.result _ c.from_residual-in_err-next_lo.ensures.1 c.in_err-next_lo.ensures.spent

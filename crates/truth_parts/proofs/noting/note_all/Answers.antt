@@ -1,10 +1,9 @@
 -- One place more is noted.
 use Rattle.std.proofs.Common.{◌≡◌, ◌<◌, length, refl, subst, sym, ◌∙◌, arith}
-use Rattle.std.proofs.lemmas.Result.{err_from_is_err_and}
 use Rattle.std.specs.Prelude.{slice_index}
 use Rattle.truth_columns.proofs.ColumnLemmas.{All-kept, AreKept-same, AreKept-trans}
 use Rattle.truth_parts.proofs.NotingLemmas.{All-found, Notes-none, Notes-found}
-use Rattle.truth_parts.proofs.KeptLemmas.{AreOf-kept, Notes-kept}
+use Rattle.truth_parts.proofs.KeptLemmas.{AreOf-kept, Notes-kept, passed_on}
 use Rattle.truth_parts.proofs.noting.note_all.Goals as goal
 
 pub loop-place-init : goal.loop-place-init
@@ -45,16 +44,16 @@ next_of-requires-clause-other g c =
 pub loop-place-preserved : goal.loop-place-preserved
 loop-place-preserved g c =
     let so_far = c.loop-place.invariant in
-    let kept = c.next_of.ensures.kept in
-    let new = c.next_of.new.truths in
-    let nodes = c.args.nodes.now in
     let hi = c.args.hi.now in
     let lo = c.args.lo.now in
+    let place = c.loop-place.place in
+    let nodes = c.args.nodes.now in
     let ones = c.args.ones.now in
     let others = c.args.others.now in
-    let old = c.args.changes.now.items in
     let mid = c.loop-place.changes.items in
-    let place = c.loop-place.place in
+    let old = c.args.changes.now.items in
+    let new = c.next_of.new.truths in
+    let kept = c.next_of.ensures.kept in
     let inside : place < length ones = omega arith in
     let below : slice_index nodes place < length hi = c.requires.below place 0 (omega (arith, c.requires.front)) in
     let found = c.in_ok-found.found in
@@ -83,8 +82,5 @@ returns-clause-changes g c =
 pub returns-in_err-found-clause-own : goal.returns-in_err-found-clause-own
 returns-in_err-found-clause-own g c = AreOf-kept _ _ _ _ _ _ c.next_of.ensures.kept c.loop-place.changes.items c.loop-place.invariant.own
 
--- what a fault tells that is passed on is so still
 pub returns-in_err-found-clause-spent : goal.returns-in_err-found-clause-spent
-returns-in_err-found-clause-spent g c =
-    let p = err_from_is_err_and c.from_residual.result c.from_residual.ensures.1 in
-    rw (p.1, p.2) c.in_err-found.ensures.spent
+returns-in_err-found-clause-spent g c = passed_on _ c.from_residual.result _ c.from_residual.ensures.1 c.in_err-found.ensures.spent

@@ -9,21 +9,13 @@ use Rattle.symbol_stage.proofs.ColumnLemmas.{counted-columns}
 use Rattle.symbol_stage.proofs.StayingLemmas.{given_beside, columns_beside}
 use Rattle.symbol_stage.proofs.columns.SymbolStageColumns.edit.Goals as goal
 
-pub add_nodes-requires-clause-more : goal.add_nodes-requires-clause-more
-add_nodes-requires-clause-more c =
+pub add_nodes-requires : goal.add_nodes-requires
+add_nodes-requires c =
     let (before, undone, sound, room, serves) = c.requires.before in
     let m = c.args.self.now.machine in
     let counted : length m.hi ≡ nodes before =
     counted-columns before (columns_in m.maker) (function_holds m.maker) m.hi m.lo c.are_rails.ensures sound (pow_pos m.maker.graph.variables) in
-    omega (arith, c.nodes.ensures, undone.more, counted)
-
-pub add_nodes-requires-clause-few : goal.add_nodes-requires-clause-few
-add_nodes-requires-clause-few c =
-    let (before, undone, sound, room, serves) = c.requires.before in
-    let m = c.args.self.now.machine in
-    let counted : length m.hi ≡ nodes before =
-    counted-columns before (columns_in m.maker) (function_holds m.maker) m.hi m.lo c.are_rails.ensures sound (pow_pos m.maker.graph.variables) in
-    omega (arith, c.nodes.ensures, room, counted)
+    record { more = omega (arith, c.nodes.ensures, undone.more, counted); few = omega (arith, c.nodes.ensures, room, counted) }
 
 pub returns-clause-columns : goal.returns-clause-columns
 returns-clause-columns c = columns_beside c.args.self.now c.add_nodes.new.self c.add_nodes.ensures.maker

@@ -5,8 +5,8 @@ use Rattle.truth_makers.specs.Makers.{columns_in, function_holds, IsFunctionOf}
 use Rattle.symbol_stage.proofs.StayingLemmas.{letter_alike, letters_alike}
 use Rattle.symbol_stage.proofs.given.SymbolStageTruthStage.alike.Goals as goal
 
-pub returns-clause-own : goal.returns-clause-own
-returns-clause-own c =
+pub returns : goal.returns
+returns c =
     let symbols = c.args.self.now.machine.maker in
     let hi = c.constant-hi.result in
     let lo = c.constant-lo.result in
@@ -16,15 +16,4 @@ returns-clause-own c =
     rw (c.symbols-symbols.ensures, c.may_zero.ensures) at c.constant-lo.ensures.value in
     let high_has : IsFunctionOf symbols hi = rw c.symbols-symbols.ensures at c.constant-hi.ensures.has in
     let low_has : IsFunctionOf symbols lo = rw c.symbols-symbols.ensures at c.constant-lo.ensures.has in
-    letters_alike symbols c.args.state hi lo highs lows high_has low_has
-
-pub returns-clause-letter : goal.returns-clause-letter
-returns-clause-letter c =
-    let symbols = c.args.self.now.machine.maker in
-    let hi = c.constant-hi.result in
-    let lo = c.constant-lo.result in
-    let highs : (column : ℕ) → column < columns_in symbols → function_holds symbols hi column ≡ may_one c.args.state =
-    rw (c.symbols-symbols.ensures, c.may_one.ensures) at c.constant-hi.ensures.value in
-    let lows : (column : ℕ) → column < columns_in symbols → function_holds symbols lo column ≡ may_zero c.args.state =
-    rw (c.symbols-symbols.ensures, c.may_zero.ensures) at c.constant-lo.ensures.value in
-    letter_alike symbols c.args.state hi lo highs lows
+    record { own = letters_alike symbols c.args.state hi lo highs lows high_has low_has; letter = letter_alike symbols c.args.state hi lo highs lows }

@@ -3,9 +3,8 @@ use Rattle.std.proofs.Common.{◌≡◌, ◌<◌, refl, sym, subst, ◌∙◌}
 use Rattle.truth_makers.specs.Makers.{columns_in, function_holds}
 use Rattle.truth_makers.specs.declared.symbols.Symbols.{Symbols}
 use Rattle.truth_machine.specs.Machines.{column_of}
-use Rattle.symbol_stage.specs.Stages.{StageData, spare_held}
 use Rattle.symbol_stage.proofs.MovedLemmas.{HasColumn-moved, columns_moved}
-use Rattle.symbol_stage.proofs.ServingLemmas.{serves_still}
+use Rattle.symbol_stage.proofs.ServingLemmas.{serves_next}
 use Rattle.symbol_stage.proofs.StayingLemmas.{on_err}
 use Rattle.symbol_stage.proofs.stage.SymbolStage.compact.Goals as goal
 
@@ -16,8 +15,6 @@ pub go_on-requires : goal.go_on-requires
 go_on-requires c =
     let m = c.self.inside.machine in
     let symbols = c.in_ok-symbols.symbols in
-    let hi = c.in_ok-symbols.hi.items in
-    let lo = c.in_ok-symbols.lo.items in
     let is = c.in_ok-symbols.ensures in
     let are = c.are_rails.ensures.columns in
     let count = columns_moved m.maker symbols is.highs.shape in
@@ -28,7 +25,7 @@ go_on-requires c =
       high_has = is.highs.inside;
       low_has = is.lows.inside;
       same = λ column inside.
-          HasColumn-moved m.maker symbols m.hi m.lo hi lo is.highs is.lows column (column_of function_holds m column)
+          HasColumn-moved m.maker symbols m.hi m.lo c.in_ok-symbols.hi.items c.in_ok-symbols.lo.items is.highs is.lows column (column_of function_holds m column)
           (are.each column (subst (λ n. column < n) count inside));
     }
 
@@ -42,25 +39,13 @@ returns-clause-states c =
     c.in_ok-go_on.ensures.states column (subst (λ (maker : Symbols). column < columns_in maker) c.in_ok-go_on.ensures.maker inside))
 
 pub returns-clause-serves : goal.returns-clause-serves
-returns-clause-serves c =
-    let i = c.self.inside in
-    let old : StageData = record { machine = i.machine; built = i.built; spare = spare_held i.room } in
-    let new : StageData = record { machine = c.go_on.new.machine; built = i.built; spare = 0 } in
-    rw (← c.self.view_is) (λ g kept serves. serves_still old new refl g (c.in_ok-go_on.ensures.fits g) kept serves)
+returns-clause-serves c = λ g. serves_next c.self.view_is c.go_on.new.machine g (c.in_ok-go_on.ensures.fits g)
 
 pub returns-in_err-symbols-clause-serves : goal.returns-in_err-symbols-clause-serves
-returns-in_err-symbols-clause-serves c =
-    let i = c.self.inside in
-    let old : StageData = record { machine = i.machine; built = i.built; spare = spare_held i.room } in
-    let new : StageData = record { machine = i.machine; built = i.built; spare = 0 } in
-    rw (← c.self.view_is) (λ g kept serves. serves_still old new refl g (λ fits. fits) kept serves)
+returns-in_err-symbols-clause-serves c = λ g. serves_next c.self.view_is c.self.inside.machine g (λ fits. fits)
 
 pub returns-in_err-go_on-clause-serves : goal.returns-in_err-go_on-clause-serves
-returns-in_err-go_on-clause-serves c =
-    let i = c.self.inside in
-    let old : StageData = record { machine = i.machine; built = i.built; spare = spare_held i.room } in
-    let new : StageData = record { machine = c.go_on.new.machine; built = i.built; spare = 0 } in
-    rw (← c.self.view_is) (λ g kept serves. serves_still old new refl g (c.in_err-go_on.ensures.fits g) kept serves)
+returns-in_err-go_on-clause-serves c = λ g. serves_next c.self.view_is c.go_on.new.machine g (c.in_err-go_on.ensures.fits g)
 
 pub returns-clause-fits : goal.returns-clause-fits
 returns-clause-fits c = rw (← c.self.view_is) (λ g fits. c.in_ok-go_on.ensures.fits g fits)

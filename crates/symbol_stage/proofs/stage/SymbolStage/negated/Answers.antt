@@ -1,21 +1,11 @@
--- The machine makes it, and is else as before.
+-- The machine makes it: it holds where the other doesn't; all else is as before.
 use Rattle.std.proofs.Common.{refl}
-use Rattle.symbol_stage.specs.Stages.{StageData, spare_held}
-use Rattle.symbol_stage.proofs.ServingLemmas.{serves_more}
+use Rattle.symbol_stage.proofs.ServingLemmas.{serves_made}
 use Rattle.symbol_stage.proofs.stage.SymbolStage.negated.Goals as goal
 
 pub negated-requires : goal.negated-requires
 negated-requires c = rw (← c.self.view_is) at c.requires
 
-pub returns-clause-makes : goal.returns-clause-makes
-returns-clause-makes c = rw (← c.self.view_is) c.negated.ensures.makes
-
-pub returns-clause-value : goal.returns-clause-value
-returns-clause-value c = rw (← c.self.view_is) c.negated.ensures.value
-
-pub returns-clause-serves : goal.returns-clause-serves
-returns-clause-serves c =
-    let i = c.self.inside in
-    let old : StageData = record { machine = i.machine; built = i.built; spare = spare_held i.room } in
-    let new : StageData = record { machine = c.negated.new.self; built = i.built; spare = 0 } in
-    rw (← c.self.view_is) (serves_more old new refl c.negated.ensures.makes)
+pub returns : goal.returns
+returns c =
+    let e = c.negated.ensures in rw (← c.self.view_is) (record { makes = e.makes; full = e.full; inside = e.inside; value = e.value; built = refl; serves = serves_made refl _ e.makes })

@@ -1,7 +1,5 @@
 -- The machine places them, and fits as before.
-use Rattle.std.proofs.Common.{refl}
-use Rattle.symbol_stage.specs.Stages.{StageData, spare_held}
-use Rattle.symbol_stage.proofs.ServingLemmas.{serves_still}
+use Rattle.symbol_stage.proofs.ServingLemmas.{serves_next}
 use Rattle.symbol_stage.proofs.stage.SymbolStage.place.Goals as goal
 
 pub place-requires : goal.place-requires
@@ -17,11 +15,7 @@ pub returns-clause-places : goal.returns-clause-places
 returns-clause-places c = rw (← c.self.view_is) c.place.ensures.places
 
 pub returns-clause-serves : goal.returns-clause-serves
-returns-clause-serves c =
-    let i = c.self.inside in
-    let old : StageData = record { machine = i.machine; built = i.built; spare = spare_held i.room } in
-    let new : StageData = record { machine = c.place.new.self; built = i.built; spare = 0 } in
-    rw (← c.self.view_is) (serves_still old new refl c.args.graph.now c.place.ensures.fits)
+returns-clause-serves c = serves_next c.self.view_is c.place.new.self c.args.graph.now c.place.ensures.fits
 
 pub returns-clause-fits : goal.returns-clause-fits
 returns-clause-fits c = rw (← c.self.view_is) c.place.ensures.fits

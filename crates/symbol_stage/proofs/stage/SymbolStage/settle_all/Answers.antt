@@ -1,9 +1,7 @@
 -- There is a valuation, and the machine settles each column.
-use Rattle.std.proofs.Common.{refl}
 use Rattle.std.proofs.lemmas.Nat.{pow_pos}
-use Rattle.symbol_stage.specs.Stages.{StageData, spare_held}
-use Rattle.symbol_stage.proofs.ServingLemmas.{serves_still}
-use Rattle.symbol_stage.proofs.StayingLemmas.{given_kept}
+use Rattle.symbol_stage.proofs.ServingLemmas.{serves_next}
+use Rattle.symbol_stage.proofs.StayingLemmas.{given_next}
 use Rattle.symbol_stage.proofs.stage.SymbolStage.settle_all.Goals as goal
 
 pub settle-requires : goal.settle-requires
@@ -20,21 +18,13 @@ pub returns-clause-settles : goal.returns-clause-settles
 returns-clause-settles c = rw (← c.self.view_is) c.settle.ensures.settles
 
 pub returns-clause-serves : goal.returns-clause-serves
-returns-clause-serves c =
-    let i = c.self.inside in
-    let old : StageData = record { machine = i.machine; built = i.built; spare = spare_held i.room } in
-    let new : StageData = record { machine = c.settle.new.self; built = i.built; spare = 0 } in
-    rw (← c.self.view_is) (serves_still old new refl c.args.graph.now (λ was. c.settle.ensures.fits))
+returns-clause-serves c = serves_next c.self.view_is c.settle.new.self c.args.graph.now (λ was. c.settle.ensures.fits)
 
 pub returns-clause-fits : goal.returns-clause-fits
 returns-clause-fits c = c.settle.ensures.fits
 
 pub returns-clause-kept : goal.returns-clause-kept
-returns-clause-kept c =
-    let i = c.self.inside in
-    let old : StageData = record { machine = i.machine; built = i.built; spare = spare_held i.room } in
-    let new : StageData = record { machine = c.settle.new.self; built = i.built; spare = 0 } in
-    rw (← c.self.view_is) (given_kept old new c.settle.ensures.kept c.settle.ensures.bound)
+returns-clause-kept c = given_next c.self.view_is c.settle.new.self c.settle.ensures.kept c.settle.ensures.bound
 
 pub returns-clause-spent : goal.returns-clause-spent
 returns-clause-spent c = c.settle.ensures.spent

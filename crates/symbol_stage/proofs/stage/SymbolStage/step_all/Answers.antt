@@ -1,9 +1,7 @@
 -- The machine takes the step under each valuation, or none.
-use Rattle.std.proofs.Common.{refl}
 use Rattle.std.proofs.lemmas.Result.{err_from_is_err_and}
-use Rattle.symbol_stage.specs.Stages.{FitsIn, StageData, spare_held}
-use Rattle.symbol_stage.proofs.ServingLemmas.{serves_still}
-use Rattle.symbol_stage.proofs.StayingLemmas.{given_kept, on_err}
+use Rattle.symbol_stage.proofs.ServingLemmas.{serves_next}
+use Rattle.symbol_stage.proofs.StayingLemmas.{fits_seen, given_next, on_err}
 use Rattle.symbol_stage.proofs.stage.SymbolStage.step_all.Goals as goal
 
 pub returns-clause-columns : goal.returns-clause-columns
@@ -13,53 +11,30 @@ pub returns-in_err-_moved-clause-columns : goal.returns-in_err-_moved-clause-col
 returns-in_err-_moved-clause-columns c = rw (← c.self.view_is) c.in_err-_moved.ensures.columns
 
 pub returns-clause-steps : goal.returns-clause-steps
-returns-clause-steps c =
-    let old : StageData = record { machine = c.self.inside.machine; built = c.self.inside.built; spare = spare_held c.self.inside.room } in
-    let fits : FitsIn old c.args.graph.now = rw (← c.self.view_is) at c.requires in
-    rw (← c.self.view_is) (c.in_ok-_moved.ensures.step fits)
+returns-clause-steps c = rw (← c.self.view_is) (c.in_ok-_moved.ensures.step (fits_seen c.self.view_is c.args.graph.now c.requires))
 
 pub returns-in_err-_moved-clause-err : goal.returns-in_err-_moved-clause-err
 returns-in_err-_moved-clause-err c = rw (← c.self.view_is) (on_err c.from_residual.result c.in_err-_moved.ensures.err)
 
 pub returns-clause-serves : goal.returns-clause-serves
-returns-clause-serves c =
-    let i = c.self.inside in
-    let old : StageData = record { machine = i.machine; built = i.built; spare = spare_held i.room } in
-    let new : StageData = record { machine = c.step.new.self; built = i.built; spare = 0 } in
-    rw (← c.self.view_is) (serves_still old new refl c.args.graph.now c.in_ok-_moved.ensures.fits)
+returns-clause-serves c = serves_next c.self.view_is c.step.new.self c.args.graph.now c.in_ok-_moved.ensures.fits
 
 pub returns-in_err-_moved-clause-serves : goal.returns-in_err-_moved-clause-serves
-returns-in_err-_moved-clause-serves c =
-    let i = c.self.inside in
-    let old : StageData = record { machine = i.machine; built = i.built; spare = spare_held i.room } in
-    let new : StageData = record { machine = c.step.new.self; built = i.built; spare = 0 } in
-    rw (← c.self.view_is) (serves_still old new refl c.args.graph.now c.in_err-_moved.ensures.fits)
+returns-in_err-_moved-clause-serves c = serves_next c.self.view_is c.step.new.self c.args.graph.now c.in_err-_moved.ensures.fits
 
 pub returns-clause-fits : goal.returns-clause-fits
-returns-clause-fits c =
-    let old : StageData = record { machine = c.self.inside.machine; built = c.self.inside.built; spare = spare_held c.self.inside.room } in
-    let fits : FitsIn old c.args.graph.now = rw (← c.self.view_is) at c.requires in
-    c.in_ok-_moved.ensures.fits fits
+returns-clause-fits c = c.in_ok-_moved.ensures.fits (fits_seen c.self.view_is c.args.graph.now c.requires)
 
 pub returns-in_err-_moved-clause-fits : goal.returns-in_err-_moved-clause-fits
-returns-in_err-_moved-clause-fits c =
-    let old : StageData = record { machine = c.self.inside.machine; built = c.self.inside.built; spare = spare_held c.self.inside.room } in
-    let fits : FitsIn old c.args.graph.now = rw (← c.self.view_is) at c.requires in
-    c.in_err-_moved.ensures.fits fits
+returns-in_err-_moved-clause-fits c = c.in_err-_moved.ensures.fits (fits_seen c.self.view_is c.args.graph.now c.requires)
 
 pub returns-clause-kept : goal.returns-clause-kept
 returns-clause-kept c =
-    let i = c.self.inside in
-    let old : StageData = record { machine = i.machine; built = i.built; spare = spare_held i.room } in
-    let new : StageData = record { machine = c.step.new.self; built = i.built; spare = 0 } in
-    rw (← c.self.view_is) (given_kept old new c.in_ok-_moved.ensures.keeps.kept c.in_ok-_moved.ensures.keeps.bounded)
+    given_next c.self.view_is c.step.new.self c.in_ok-_moved.ensures.keeps.kept c.in_ok-_moved.ensures.keeps.bounded
 
 pub returns-in_err-_moved-clause-kept : goal.returns-in_err-_moved-clause-kept
 returns-in_err-_moved-clause-kept c =
-    let i = c.self.inside in
-    let old : StageData = record { machine = i.machine; built = i.built; spare = spare_held i.room } in
-    let new : StageData = record { machine = c.step.new.self; built = i.built; spare = 0 } in
-    rw (← c.self.view_is) (given_kept old new c.in_err-_moved.ensures.keeps.kept c.in_err-_moved.ensures.keeps.bounded)
+    given_next c.self.view_is c.step.new.self c.in_err-_moved.ensures.keeps.kept c.in_err-_moved.ensures.keeps.bounded
 
 pub returns-in_err-_moved-clause-spent : goal.returns-in_err-_moved-clause-spent
 returns-in_err-_moved-clause-spent c =

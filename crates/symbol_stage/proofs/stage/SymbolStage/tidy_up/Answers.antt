@@ -34,10 +34,8 @@ pub returns-clause-tidied : goal.returns-clause-tidied
 returns-clause-tidied c =
     let old = c.args.self.now in
     let new = c.compact.new.self in
-    let names = c.args.names.now in
-    let kept = c.args.kept.now in
-    let are : AreMoved old.machine.maker new.machine.maker (names.functions ++ kept) c.in_ok-found.found.items =
+    let are : AreMoved old.machine.maker new.machine.maker (c.args.names.now.functions ++ c.args.kept.now) c.in_ok-found.found.items =
     subst (λ (list : List Function). AreMoved old.machine.maker new.machine.maker list c.in_ok-found.found.items) (c.deref.ensures.value ∙ c.in_ok-all.ensures)
     c.in_ok-found.ensures.moved in
-    IsTidied-done old new names kept c.in_ok-found.found.items c.put_back.new.names c.put_back.new.kept are c.put_back.ensures.names c.put_back.ensures.kept
+    IsTidied-done old new c.args.names.now c.args.kept.now c.in_ok-found.found.items c.put_back.new.names c.put_back.new.kept are c.put_back.ensures.names c.put_back.ensures.kept
     c.in_ok-found.ensures.states c.compact.ensures.fits c.compact.ensures.built

@@ -29,22 +29,17 @@ returns-clause-low_has g c =
 pub returns-clause-one : goal.returns-clause-one
 returns-clause-one g c =
     let i = c.self.inside in
-    let m = c.self.invariant.0 in
-    let holds = g.T.Truths.holds i.truths in
     let within : c.args.node < length i.hi.items = omega (arith, c.requires, ap (λ (d : TruthData _ _). length d.hi) c.self.view_is) in
-    rw (← c.self.view_is)
-    (λ column inside.
-    ap (λ x. holds x column) c.index.ensures
-    ∙ high_at_node holds column i.hi.items i.lo.items (states_in holds column i.hi.items i.lo.items) (m.columns.each column inside) c.args.node c.index.result.now within)
+    rw (← c.self.view_is) (λ column inside.
+    ap (λ x. g.T.Truths.holds i.truths x column) c.index.ensures
+    ∙ high_at_node (g.T.Truths.holds i.truths) column i.hi.items i.lo.items (states_in (g.T.Truths.holds i.truths) column i.hi.items i.lo.items)
+    (c.self.invariant.0.columns.each column inside) c.args.node c.index.result.now within)
 
 pub returns-clause-zero : goal.returns-clause-zero
 returns-clause-zero g c =
     let i = c.self.inside in
-    let m = c.self.invariant.0 in
-    let holds = g.T.Truths.holds i.truths in
     let within : c.args.node < length i.hi.items = omega (arith, c.requires, ap (λ (d : TruthData _ _). length d.hi) c.self.view_is) in
-    rw (← c.self.view_is)
-    (λ column inside.
-    ap (λ x. holds x column) c.index-2.ensures
-    ∙ low_at_node holds column i.hi.items i.lo.items (states_in holds column i.hi.items i.lo.items) (m.columns.each column inside) m.columns.counted c.args.node
-    c.index-2.result.now within)
+    rw (← c.self.view_is) (λ column inside.
+    ap (λ x. g.T.Truths.holds i.truths x column) c.index-2.ensures
+    ∙ low_at_node (g.T.Truths.holds i.truths) column i.hi.items i.lo.items (states_in (g.T.Truths.holds i.truths) column i.hi.items i.lo.items)
+    (c.self.invariant.0.columns.each column inside) c.self.invariant.0.columns.counted c.args.node c.index-2.result.now within)

@@ -6,13 +6,11 @@ use Rattle.truth_machine.proofs.machine.TruthMachine.step_on.Goals as goal
 
 pub returns-clause-fits : goal.returns-clause-fits
 returns-clause-fits g c = λ fits.
-    let columns = g.T.Truths.columns in
-    let has = g.T.Truths.has in
-    let holds = g.T.Truths.holds in
     let old = c.args.self.now in
     let new = c.take.new.self in
-    let graph = c.args.graph.now in
     let t = c.take.ensures in
-    either_way c.take.result (StepsColumns columns holds c.args.joining old new) (Rests old new) (FitsInMachine columns holds graph new) t.steps t.rests
-    (λ moved steps. FitsInMachine-stepped columns has holds old new t.kept t.highs t.lows graph c.graphs_are_wired.ensures c.args.joining moved steps fits)
-    (λ rests. FitsInMachine-rests columns has holds old new t.kept t.highs t.lows graph rests fits)
+    either_way c.take.result (StepsColumns g.T.Truths.columns g.T.Truths.holds c.args.joining old new) (Rests old new)
+    (FitsInMachine g.T.Truths.columns g.T.Truths.holds c.args.graph.now new) t.steps t.rests
+    (λ moved steps. FitsInMachine-stepped g.T.Truths.columns g.T.Truths.has g.T.Truths.holds old new t.kept t.highs t.lows c.args.graph.now c.graphs_are_wired.ensures
+    c.args.joining moved steps fits)
+    (λ rests. FitsInMachine-rests g.T.Truths.columns g.T.Truths.has g.T.Truths.holds old new t.kept t.highs t.lows c.args.graph.now rests fits)

@@ -3,7 +3,7 @@ use Rattle.std.proofs.Common.{ℕ, ◌<◌, length, sym, subst}
 use Rattle.decision_graph.specs.declared.vertex.Function.{Function}
 use Rattle.truth_makers.specs.declared.symbols.Symbols.{Symbols}
 use Rattle.truth_machine.specs.Machines.{TruthData}
-use Rattle.truth_machine.proofs.MakerLemmas.{IsWorkspace-made, IsTruthMachine-made_more, makes_more}
+use Rattle.truth_machine.proofs.MakerLemmas.{stays_whole, whole_makes}
 use Rattle.truth_machine.proofs.symbols.TruthMachine+Symbols.either.Goals as goal
 
 pub or-requires : goal.or-requires
@@ -12,23 +12,11 @@ or-requires c =
     subst (λ (d : TruthData Function Symbols). place < length d.maker.graph.vertices) (sym c.self.view_is) is in
     record { first = inside c.args.a.place c.requires.first; second = inside c.args.b.place c.requires.second }
 
-pub invariant_of-self : goal.invariant_of-self
-invariant_of-self c =
-    let i = c.self.inside in
-    let m = c.self.invariant.0 in
-    let made = c.or.ensures in (
-      IsTruthMachine-made_more i.truths.graph c.or.new.self made.shape made.extends i.parts.items i.agenda i.hi.items i.lo.items m.columns m.highs m.lows
-          i.readers.items i.owners.items _ m,
-      IsWorkspace-made i.truths.graph c.or.new.self made.shape made.extends i.workspace c.self.invariant.1,
-    )
-
-pub returns-clause-makes : goal.returns-clause-makes
-returns-clause-makes c =
-    let i = c.self.inside in
-    let m = c.self.invariant.0 in
+pub returns : goal.returns
+returns c =
     let made = c.or.ensures in
     rw (← c.self.view_is)
-    (makes_more i.truths.graph c.or.new.self made.shape made.extends i.parts.items i.agenda i.hi.items i.lo.items m.columns m.highs m.lows)
+    (record { makes = whole_makes c.self.inside.truths.graph c.or.new.self made.shape made.extends c.self.invariant; full = made.full; inside = made.inside; value = made.value })
 
-pub returns-clause-value : goal.returns-clause-value
-returns-clause-value c = rw (← c.self.view_is) c.or.ensures.value
+pub invariant_of-self : goal.invariant_of-self
+invariant_of-self c = stays_whole c.self.inside.truths.graph c.or.new.self c.or.ensures.shape c.or.ensures.extends c.self.invariant

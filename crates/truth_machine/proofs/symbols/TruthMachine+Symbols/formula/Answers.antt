@@ -4,7 +4,7 @@ use Rattle.decision_graph.specs.declared.vertex.Function.{Function}
 use Rattle.formula_functions.specs.Tables.{AreInside}
 use Rattle.truth_makers.specs.declared.symbols.Symbols.{Symbols}
 use Rattle.truth_machine.specs.Machines.{TruthData}
-use Rattle.truth_machine.proofs.MakerLemmas.{IsWorkspace-made, IsTruthMachine-made_more, makes_more}
+use Rattle.truth_machine.proofs.MakerLemmas.{stays_whole, whole_makes}
 use Rattle.truth_machine.proofs.symbols.TruthMachine+Symbols.formula.Goals as goal
 
 pub function_of-requires : goal.function_of-requires
@@ -12,22 +12,10 @@ function_of-requires c =
     subst (λ (d : TruthData Function Symbols). AreInside d.maker.graph.vertices c.args.table.now.functions) (sym c.self.view_is) c.requires
 
 pub invariant_of-self : goal.invariant_of-self
-invariant_of-self c =
-    let i = c.self.inside in
-    let m = c.self.invariant.0 in
-    let made = c.function_of.ensures in (
-      IsTruthMachine-made_more i.truths.graph c.function_of.new.graph made.shape made.extends i.parts.items i.agenda i.hi.items i.lo.items m.columns m.highs m.lows
-          i.readers.items i.owners.items _ m,
-      IsWorkspace-made i.truths.graph c.function_of.new.graph made.shape made.extends i.workspace c.self.invariant.1,
-    )
+invariant_of-self c = stays_whole c.self.inside.truths.graph c.function_of.new.graph c.function_of.ensures.shape c.function_of.ensures.extends c.self.invariant
 
-pub returns-clause-makes : goal.returns-clause-makes
-returns-clause-makes c =
-    let i = c.self.inside in
-    let m = c.self.invariant.0 in
+pub returns : goal.returns
+returns c =
     let made = c.function_of.ensures in
     rw (← c.self.view_is)
-    (makes_more i.truths.graph c.function_of.new.graph made.shape made.extends i.parts.items i.agenda i.hi.items i.lo.items m.columns m.highs m.lows)
-
-pub returns-clause-value : goal.returns-clause-value
-returns-clause-value c = rw (← c.self.view_is) c.function_of.ensures.value
+    (record { makes = whole_makes c.self.inside.truths.graph c.function_of.new.graph made.shape made.extends c.self.invariant; full = made.full; inside = made.inside; value = made.value })
