@@ -1,7 +1,7 @@
 -- Texts that are found by their names.
 use Rattle.std.specs.Prelude.{ℕ, List, ◌++◌, Option, bytes_eq, option_map, find, map}
 use Rattle.std.specs.Borrow.{Bor}
-use Rattle.help_texts.specs.declared.cures.TheConstants.{CURES}
+use Rattle.help_texts.specs.declared.cures.TheConstants.{CURES, SYMBOLIC_CURES}
 use Rattle.help_texts.specs.declared.topics.TheConstants.{COMMANDS, REQUESTS}
 
 -- the names of a table, each with its text
@@ -27,3 +27,7 @@ topics = requests ++ commands
 -- the codes of `CURES`, each with what it says
 unfoldable pub cures : List (List ℕ × List ℕ)
 cures = map (λ cure. (cure.0.now, cure.1.now)) CURES
+
+-- the codes of `SYMBOLIC_CURES`, each with what it says
+unfoldable pub symbolic_cures : List (List ℕ × List ℕ)
+symbolic_cures = map (λ cure. (cure.0.now, cure.1.now)) SYMBOLIC_CURES

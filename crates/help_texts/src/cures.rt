@@ -1,6 +1,6 @@
 //! What each refusal means, and its cure.
 
-ghost use Rattle.std.specs.Prelude.{◌≡◌, option_map};
+ghost use Rattle.std.specs.Prelude.{◌≡◌, ◌++◌, option_map};
 ghost use Rattle.help_texts.specs.Texts as spec;
 
 use crate::finding::text_of;
@@ -11,7 +11,7 @@ use crate::finding::text_of;
 /// of the line; for N3 the format, for N5 the word that begins with `caps:`; for E1, E3, S6 and S7 the
 /// node's name as the line has it, or the vector's that has the node, for S12 the vector's, for S14 the
 /// assignment, for E6 the second name; for S16 the name, for S18 that of the `let`; for E2 and S5 the word in
-/// the place of the number, for S4 that in the place of the assignment or the kind; for E4 and E5 the
+/// the place of the number, for S4 that in the place of the assignment, the kind, the variable or the formula; for E4 and E5 the
 /// strength and the size; for G1 and G2 the name that the refusal has; for P4 to P8 the subcircuit's
 /// name, for P10 the model's. The others have none.
 pub const CURES: [(&str, &str); 48] = [
@@ -209,6 +209,32 @@ pub const CURES: [(&str, &str); 48] = [
     ),
 ];
 
+/// The codes whose cure is another one in a symbolic script, each with what it says there.
+///
+/// `{}` stands for the same words as in `CURES`.
+pub const SYMBOLIC_CURES: [(&str, &str); 5] = [
+    (
+        "S4 BadValue",
+        "'{}' doesn't fit; write NAME=0, NAME=1, NAME=X or NAME=FORMULA, a variable as $x, a formula as $x&!$y, or a kind n, e, p or d",
+    ),
+    (
+        "S5 BadNumber",
+        "'{}' is no number that fits; write digits, from 1 to 1000000 for limit and cycle, from 2 to 4294967295 for vertices",
+    ),
+    (
+        "S14 VectorValue",
+        "'{}' doesn't fit; write one letter, or a letter or a formula for each node, or a number that they can hold",
+    ),
+    (
+        "G1 GroupNodes",
+        "the group of '{}' has over 200 nodes; join supplies to rails by '=', or use 'sim', which takes more by 'wide N'",
+    ),
+    (
+        "G2 GroupSwitches",
+        "the group of '{}' has over 800 switches; join supplies to rails by '=', or use 'sim', which takes more by 'wide N'",
+    ),
+];
+
 /// What the first cure with this code says, if there is one; a code is as it is printed, as `S6 NotInput`.
 pub fn cure(code: &[u8]) -> Option<&'static str>
     ensures { option_map (λ text. text.now) result ≡ spec.text_of spec.cures code.now }
@@ -216,9 +242,27 @@ pub fn cure(code: &[u8]) -> Option<&'static str>
     text_of(all_cures(), code)
 }
 
+/// The same for a line of a symbolic script: what its own cure with this code says, or else what the cure for all says.
+#[tactic(auto, using(crate::proofs::TopicLemmas::text_first, crate::proofs::TopicLemmas::text_later))]
+pub fn symbolic_cure(code: &[u8]) -> Option<&'static str>
+    ensures { option_map (λ text. text.now) result ≡ spec.text_of (spec.symbolic_cures ++ spec.cures) code.now }
+{
+    match text_of(all_symbolic_cures(), code) {
+        Some(text) => Some(text),
+        None => text_of(all_cures(), code),
+    }
+}
+
 // All cures.
 fn all_cures() -> &'static [(&'static str, &'static str)]
     ensures { spec.entries_of result.now ≡ spec.cures }
 {
     &CURES
+}
+
+// The cures of a symbolic script's own.
+fn all_symbolic_cures() -> &'static [(&'static str, &'static str)]
+    ensures { spec.entries_of result.now ≡ spec.symbolic_cures }
+{
+    &SYMBOLIC_CURES
 }

@@ -12,6 +12,8 @@ Cosmos: a proved switch-level simulator for MOS circuits, by Bryant's model.
   cosmos faults NET SCRIPT LIST   run it under each fault; tell if it shows
   cosmos vcd NET SCRIPT           run it, and write waveforms for a viewer
   cosmos cover NET SCRIPT         tell which of 0 and 1 each node never had
+  cosmos symbolic NET SCRIPT      run it for all values of its named bits
+  cosmos equiv NET1 NET2 SCRIPT   tell where two netlists differ under it
   cosmos batch NET L SCRIPT       run it in L columns at once, L from 1 to 64
   cosmos check NET                count nodes, transistors and names
   cosmos groups NET               list the channel-connected groups
@@ -36,16 +38,17 @@ A script has a command on each line; a line that begins with | is a comment.
   add, del, strength, type, wire    change transistors while the script runs
   report, keep     count groups and analyses; bound what is kept of these
   wide             let groups have more than 200 nodes
+  variables, let, vertices    under 'symbolic' and 'equiv': named bits
 
 Examples, from the folder of the README:
   ./cosmos sim examples/inverter.sim examples/inverter.cmd
   ./cosmos why examples/unknown-nodes.sim examples/unknown-nodes.cmd cell
   ./cosmos sim-spice examples/two-inverters.sp examples/two-inverters.cmd
 
-Exit status: 0; 1 an expectation isn't met, or 'lint' has findings; 2 a bad
+Exit status: 0; 1 an expectation isn't met, or findings or differences; 2 a bad
 command line or NODE; 3 NET or DECK refused; 4 SCRIPT or LIST refused; 5
-reading; 6 writing; 7 no memory. For 3 and 4 standard error has the refused
-line's number, its code and a cure.
+reading; 6 writing; 7 no memory; 8 no more vertices. For 3 and 4 standard
+error has the refused line's number, its code and a cure.
 Documents: README.md, and in docs/ USING.md, FORMATS.md, MODEL.md and others.
 ";
 
@@ -57,6 +60,8 @@ usage: cosmos sim NET SCRIPT
        cosmos faults NET SCRIPT LIST
        cosmos vcd NET SCRIPT
        cosmos cover NET SCRIPT
+       cosmos symbolic NET SCRIPT
+       cosmos equiv NET1 NET2 SCRIPT
        cosmos batch NET L SCRIPT
        cosmos check NET
        cosmos groups NET

@@ -6,7 +6,7 @@ ghost use Rattle.help_texts.specs.Texts as spec;
 use crate::finding::text_of;
 
 /// Each request with its form, what it does, and what it is refused for.
-pub const REQUESTS: [(&str, &str); 16] = [
+pub const REQUESTS: [(&str, &str); 18] = [
     (
         "sim",
         "cosmos sim NET SCRIPT
@@ -89,6 +89,38 @@ So one sees where a test is blind before 'faults' runs any fault.
 If the name NET ends in .sp, .spi, .spice, .cir or .ckt, it is a SPICE deck. A
 line of NET or SCRIPT is refused as in 'sim', one of a deck as in 'sim-spice',
 and told alone.
+",
+    ),
+    (
+        "symbolic",
+        "cosmos symbolic NET SCRIPT
+Runs SCRIPT once for all values of the bits that it names. In 'set', 'charge'
+and 'expect' a value may also be a formula, as $a&!$b, or a list of letters and
+formulas with commas between them, one for each node of a vector: 'set
+bus=$b{3:0}'. In a formula ! binds tightest, then &, ^ and |. Each name that no
+'let' defines is a variable, 0 or 1; the first that appears counts most.
+Lines are those of 'sim', with ? where two values differ. An expectation that
+isn't met for some values tells the first of these, 'where $a=0 $b=1'; past 64
+variables only those that are 1. The status is then 1.
+All commands stand but 'report', 'keep' and 'wide' (S1 BadCommand); besides
+there are 'variables', 'let' and 'vertices'. If the name NET ends in .sp, .spi,
+.spice, .cir or .ckt, it is a SPICE deck. A line of NET or SCRIPT is refused as
+in 'sim', one of a deck as in 'sim-spice'; and S18 NameDefined,
+S19 TooManyVariables past 4096. Status 8: more vertices were wanted than
+'vertices' allows.
+",
+    ),
+    (
+        "equiv",
+        "cosmos equiv NET1 NET2 SCRIPT
+Runs SCRIPT as 'symbolic' does on NET1 and on NET2, and compares what the
+watched words show in each line. For each word that differs for some values it
+prints 'differ N WORD LETTERS LETTERS where ..', with the first such values,
+and last 'equal LINES' or 'different COUNT' (status 1). Numbers of steps don't
+count.
+'expect', 'show' and 'look' are S1 BadCommand too. A refusal is told alone,
+after 'first net: ' or 'second net: ' (status 3 or 4). Each net is a SPICE deck
+if its name ends in .sp, .spi, .spice, .cir or .ckt. Status 8 as in 'symbolic'.
 ",
     ),
     (
@@ -205,7 +237,7 @@ It reads no file and is never refused.
 ];
 
 /// Each command of a script or a talk, likewise.
-pub const COMMANDS: [(&str, &str); 26] = [
+pub const COMMANDS: [(&str, &str); 29] = [
     (
         "input",
         "input NAME..
@@ -437,6 +469,37 @@ Refused: S2 FewWords, S3 ManyWords, S5 BadNumber.
 Lets a group have up to N nodes, N from 200 to 1000000, and any number of
 switches, from the next build on. One of more than 200 nodes or 800 switches has
 no text: 'report' counts it among the groups alone.
+Refused: S2 FewWords, S3 ManyWords, S5 BadNumber.
+",
+    ),
+    (
+        "variables",
+        "variables WORD..
+Under 'symbolic' and 'equiv': lets the names be variables, in this order. A
+WORD is $name, or has a range: '$a{3:0}' is $a3 $a2 $a1 $a0. It does nothing
+when it is obeyed. The order decides how many vertices a run needs: the highest
+bit first, operands in turn, addresses before data.
+Refused: S2 FewWords, S4 BadValue for a word that is no name;
+S19 TooManyVariables past 4096.
+",
+    ),
+    (
+        "let",
+        "let $NAME FORMULA
+Under 'symbolic' and 'equiv': from the next line on $NAME stands for what the
+formula is here. It does nothing when it is obeyed.
+Refused: S2 FewWords, S3 ManyWords, S4 BadValue for words that are no name and
+no formula; S18 NameDefined for a name that is defined, or is a variable by now;
+S19 TooManyVariables past 4096.
+",
+    ),
+    (
+        "vertices",
+        "vertices N
+Under 'symbolic' and 'equiv': bounds the number of vertices of the decision
+graph in which all states stand, N from 2 to 4294967295. The last one counts,
+for the whole script; without it N is 16777216. Where one more is wanted the
+run ends with status 8. It does nothing when it is obeyed.
 Refused: S2 FewWords, S3 ManyWords, S5 BadNumber.
 ",
     ),

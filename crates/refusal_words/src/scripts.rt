@@ -61,11 +61,13 @@ fn clocks_before(text: &[u8], number: u64) -> &[u8] {
     clocks
 }
 
-// The names that are in use.
+/// The names that are in use.
 #[derive(Clone, Copy)]
-struct Names<'a> {
-    circuit: &'a Circuit,
-    vectors: &'a Vectors,
+pub(crate) struct Names<'a> {
+    /// The nodes with their names.
+    pub(crate) circuit: &'a Circuit,
+    /// The vectors, each with its name.
+    pub(crate) vectors: &'a Vectors,
 }
 
 // What a name stands for.
@@ -89,9 +91,17 @@ fn sort_of(names: Names<'_>, name: &[u8]) -> NodeSort {
     }
 }
 
-// Whether the name is that of a vector.
-fn is_vector(names: Names<'_>, name: &[u8]) -> bool {
-    matches!(names.vectors.named(names.circuit, name), Named::Vector(_))
+/// Whether the name is that of a vector.
+pub(crate) fn is_vector(names: Names<'_>, name: &[u8]) -> bool {
+    vector_length(names, name).is_some()
+}
+
+/// How many nodes the vector of this name has, if it is that of one.
+pub(crate) fn vector_length(names: Names<'_>, name: &[u8]) -> Option<usize> {
+    match names.vectors.named(names.circuit, name) {
+        Named::Vector(nodes) => Some(nodes.len()),
+        Named::Node(_) | Named::Nothing => None,
+    }
 }
 
 // The first name of a line that stands for such a node, or else for a vector; and the line's first word if there is
@@ -125,17 +135,66 @@ fn first_of_sort<'a>(line: &'a [u8], names: Names<'_>, sort: NodeSort) -> Option
     None
 }
 
-// The first word of a line that gives a vector more than a letter, and the line's first word if there is none.
+// The first word of a line that gives a vector a value that doesn't fit it, and the line's first word if there is none.
 fn vector_value<'a>(line: &'a [u8], names: Names<'_>) -> &'a [u8] {
     for word in words(line) {
         if let Some((name, value)) = cut_at_equals(word)
-            && value.len() > 1
-            && is_vector(names, name)
+            && let Some(count) = vector_length(names, name)
+            && !is_fit(value, count)
         {
             return word;
         }
     }
     first_word(line)
+}
+
+/// Whether a value fits so many nodes: one letter, or one for each, or a number that they can hold.
+pub(crate) fn is_fit(value: &[u8], count: usize) -> bool {
+    match value {
+        [b'%', b'h', digits @ ..] => bits_of_hex(digits) <= count,
+        [b'%', b'd', digits @ ..] => match decimal(digits) {
+            Some(number) => bits_of(number) <= count,
+            None => false,
+        },
+        letters => letters.len() == 1 || letters.len() == count,
+    }
+}
+
+// How many bits a number of hexadecimal digits has, without zeros before the others.
+fn bits_of_hex(digits: &[u8]) -> usize {
+    let mut bits: usize = 0;
+    for &digit in digits {
+        if bits > 0 {
+            bits = bits.saturating_add(4);
+        } else {
+            bits = bits_of_digit(digit);
+        }
+    }
+    bits
+}
+
+// How many bits a hexadecimal digit has, without zeros before the others.
+fn bits_of_digit(digit: u8) -> usize {
+    match digit {
+        b'0' => 0,
+        b'1' => 1,
+        b'2' | b'3' => 2,
+        b'4'..=b'7' => 3,
+        _ => 4,
+    }
+}
+
+// How many bits a number has, without zeros before the others.
+fn bits_of(number: u64) -> usize {
+    let mut bits: usize = 0;
+    let mut rest = number;
+    for _ in 0..u64::BITS {
+        if rest > 0 {
+            rest /= 2;
+            bits = bits.saturating_add(1);
+        }
+    }
+    bits
 }
 
 // The name in a word of a command.
@@ -154,17 +213,55 @@ fn bad_value<'a>(line: &'a [u8], names: Names<'_>, columns: usize) -> &'a [u8] {
     match first_word(line) {
         b"add" => word_behind(line, 1),
         b"type" => word_behind(line, 2),
-        b"clock" => first_unfit(line, names, None),
-        _ => first_unfit(line, names, Some(columns)),
+        b"clock" => first_unfit(line, None),
+        _ if columns > 1 => first_unfit(line, Some(columns)),
+        _ => bad_assignment(line, names),
     }
 }
 
-// The first word behind the command that is no assignment of one letter, or of so many, or of any number of them, and
-// none of a value to a vector.
-fn first_unfit<'a>(line: &'a [u8], names: Names<'_>, columns: Option<usize>) -> &'a [u8] {
+// The first word behind the command that is no assignment by its text; or else the first one whose value is for a vector alone and
+// that names none.
+fn bad_assignment<'a>(line: &'a [u8], names: Names<'_>) -> &'a [u8] {
+    if let Some(word) = first_unwritten(line) {
+        return word;
+    }
+    match first_misplaced(line, names) {
+        Some(word) => word,
+        None => first_unfit(line, Some(1)),
+    }
+}
+
+// The first word behind the command that is no assignment by its text.
+fn first_unwritten(line: &[u8]) -> Option<&[u8]> {
+    let dashes = matches!(first_word(line), b"expect");
     let mut is_first = true;
     for word in words(line) {
-        if !is_first && !is_assignment(word, columns) && !is_vector_value(word, names) {
+        if !is_first && !is_written(word, dashes) {
+            return Some(word);
+        }
+        is_first = false;
+    }
+    None
+}
+
+// The first word that gives what is no vector a value that is for a vector alone.
+fn first_misplaced<'a>(line: &'a [u8], names: Names<'_>) -> Option<&'a [u8]> {
+    for word in words(line) {
+        if let Some((name, value)) = cut_at_equals(word)
+            && !is_letter(value)
+            && !is_vector(names, name)
+        {
+            return Some(word);
+        }
+    }
+    None
+}
+
+// The first word behind the command that is no assignment of one letter, or of so many, or of any number of them.
+fn first_unfit(line: &[u8], columns: Option<usize>) -> &[u8] {
+    let mut is_first = true;
+    for word in words(line) {
+        if !is_first && !is_assignment(word, columns) {
             return word;
         }
         is_first = false;
@@ -172,15 +269,20 @@ fn first_unfit<'a>(line: &'a [u8], names: Names<'_>, columns: Option<usize>) -> 
     first_word(line)
 }
 
-// Whether the word is an assignment of a vector's value to a vector.
-fn is_vector_value(word: &[u8], names: Names<'_>) -> bool {
+// Whether the word is an assignment by its text, in which `-` may stand or not.
+fn is_written(word: &[u8], dashes: bool) -> bool {
     match cut_at_equals(word) {
-        Some((name, [b'%', b'h', digits @ ..])) => is_vector(names, name) && are_hex_digits(digits),
-        Some((name, [b'%', b'd', digits @ ..])) => {
-            is_vector(names, name) && decimal(digits).is_some()
-        }
-        Some((name, letters)) => is_vector(names, name) && are_vector_letters(letters),
+        Some((name, value)) => !name.is_empty() && is_value(value, dashes),
         None => false,
+    }
+}
+
+// Whether the text is a value: a number, or letters.
+fn is_value(text: &[u8], dashes: bool) -> bool {
+    match text {
+        [b'%', b'h', digits @ ..] => are_hex_digits(digits),
+        [b'%', b'd', digits @ ..] => decimal(digits).is_some(),
+        letters => !letters.is_empty() && are_value_letters(letters, dashes),
     }
 }
 
@@ -189,14 +291,19 @@ fn are_hex_digits(digits: &[u8]) -> bool {
     !digits.is_empty() && digits.iter().all(|digit| digit.is_ascii_hexdigit())
 }
 
-// Whether there are bytes and each is the letter of a state, or `-`.
-fn are_vector_letters(letters: &[u8]) -> bool {
+// Whether each byte is the letter of a state, or `-` if it may stand.
+fn are_value_letters(letters: &[u8], dashes: bool) -> bool {
     for &letter in letters {
-        if letter != b'-' && Tern::from_letter(letter).is_none() {
+        if !(dashes && letter == b'-') && Tern::from_letter(letter).is_none() {
             return false;
         }
     }
-    !letters.is_empty()
+    true
+}
+
+// Whether the value is one letter of a state.
+fn is_letter(value: &[u8]) -> bool {
+    value.len() == 1 && are_letters(value)
 }
 
 // Whether the word is an assignment of one letter, or of so many, or of any number of them.

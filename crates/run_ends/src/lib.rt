@@ -3,7 +3,8 @@
 //! The main types are `End`, how a run ends that meets no fault, `Stop`, what ends it before its answer is
 //! written, and `Status`, the exit status of the program. `refuse` writes the line of a refusal, and
 //! `refuse_size` that of the first group of a circuit that is too large; both note the cure for a human, as
-//! `note_cure` does, which is no part of what is written; `cure_text` is what is noted. An `Answer` is a status, a
+//! `note_cure` does, which is no part of what is written; `cure_text` is what is noted. `refuse_symbolic` and
+//! `refuse_symbolic_named` do the same in a symbolic script, whose cures differ. An `Answer` is a status, a
 //! text, and the texts of groups that were analysed; the layers above use that `IsTold` says that a right one was
 //! written, or a part of one, and `IsToldBy` that its texts were analysed besides.
 //!
@@ -24,6 +25,6 @@ mod status;
 mod stop;
 
 pub use notes::{cure_text, note_cure};
-pub use refusal::{refuse, refuse_named, refuse_size};
+pub use refusal::{refuse, refuse_named, refuse_size, refuse_symbolic, refuse_symbolic_named};
 pub use status::Status;
 pub use stop::{End, Stop};

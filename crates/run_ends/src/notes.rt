@@ -2,7 +2,7 @@
 
 ghost use Rattle.std.specs.Prelude.{◌≡◌};
 
-use help_texts::cure;
+use help_texts::{cure, symbolic_cure};
 use itoa::Buffer;
 use ports::{NotedFile, Sink};
 use std::alloc::Global;
@@ -31,6 +31,25 @@ pub fn note_cure<S: Sink>(
     out.note(file, &text);
 }
 
+/// The same of a line of a symbolic script, with its own cure if it has one.
+pub(crate) fn note_symbolic_cure<S: Sink>(
+    alloc: Global,
+    file: NotedFile,
+    line: Option<u64>,
+    code: &[u8],
+    word: &[u8],
+    out: &mut S,
+)
+    ensures bytes { S.written out.new ≡ S.written out.old }
+    ensures cause { S.faults out.new ≡ S.faults out.old }
+    ensures memory { S.refusals out.new ≡ S.refusals out.old }
+{
+    let Ok(text) = text_with(alloc, line, code, symbolic_cure(code), word) else {
+        return;
+    };
+    out.note(file, &text);
+}
+
 /// What is noted, as it follows the file's name: the line, the code, and the cure.
 pub fn cure_text(
     alloc: Global,
@@ -38,11 +57,22 @@ pub fn cure_text(
     code: &[u8],
     word: &[u8],
 ) -> Result<Vec<u8>, NoMemory> {
+    text_with(alloc, line, code, cure(code), word)
+}
+
+// The line, the code, and what its cure says, if it has one.
+fn text_with(
+    alloc: Global,
+    line: Option<u64>,
+    code: &[u8],
+    says: Option<&'static str>,
+    word: &[u8],
+) -> Result<Vec<u8>, NoMemory> {
     let mut text = Vec::new(alloc);
     append_line(&mut text, line)?;
     append(&mut text, b": ")?;
     append(&mut text, code)?;
-    if let Some(says) = cure(code) {
+    if let Some(says) = says {
         append(&mut text, b": ")?;
         append_cure(&mut text, says.as_bytes(), word)?;
     }

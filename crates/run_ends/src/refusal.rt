@@ -2,11 +2,12 @@
 
 ghost use Rattle.std.specs.Prelude.{◌≡◌, ◌≢◌, ◌⊎◌, ℕ, Err, IfOk, IfErr};
 ghost use Rattle.circuit_texts.specs.Sizes.{TellsRefused};
+ghost use Rattle.printed_lines.specs.declared.faults.FaultPlace.TheVariants.{Script};
 ghost use Rattle.run_ends.specs.Answers.{IsRefusal, IsRefusalFor, IsTooLarge};
 ghost use Rattle.run_ends.specs.Ends.{IsTold, status_of};
 ghost use Rattle.run_ends.specs.Stops.{faults_written, IsRefusedOnce};
 
-use crate::notes::note_cure;
+use crate::notes::{note_cure, note_symbolic_cure};
 use crate::stop::{End, Stop};
 use circuit_texts::BuildFault;
 use netlist::Circuit;
@@ -53,13 +54,83 @@ pub fn refuse_named<S: Sink>(
     ensures write { S.faults out.new ≡ faults_written (S.faults out.old) result }
     ensures refused { IsRefusedOnce (S.refusals out.old) (S.refusals out.new) result }
 {
+    let ended = write_refusal(alloc, place, code, name, count, end, out);
+    if ended.is_ok() {
+        note_at(alloc, place, code, word, out);
+    }
+    ended
+}
+
+/// Writes the line of a refusal in a symbolic script, and ends the run so. The cure there is noted besides, with the word that it
+/// is about.
+pub fn refuse_symbolic<S: Sink>(
+    alloc: Global,
+    line: u64,
+    code: FaultCode,
+    word: &[u8],
+    end: End,
+    out: &mut S,
+) -> Result<End, Stop>
+    ensures told { IsTold
+        (IsRefusal (Script line) code (status_of end)) (S.written out.old) (S.written out.new) result }
+    ensures same { IfOk result (λ ended. ended ≡ end) }
+    ensures no_read { IfErr result (λ stop. stop ≢ Stop.Read) }
+    ensures write { S.faults out.new ≡ faults_written (S.faults out.old) result }
+    ensures refused { IsRefusedOnce (S.refusals out.old) (S.refusals out.new) result }
+{
+    refuse_symbolic_named(alloc, line, code, b"", 0, word, end, out)
+}
+
+/// Writes the line of a refusal in a symbolic script that tells of a node by its name, and a count, and ends the run so. The cure
+/// there is noted besides, with this word.
+pub fn refuse_symbolic_named<S: Sink>(
+    alloc: Global,
+    line: u64,
+    code: FaultCode,
+    name: &[u8],
+    count: u64,
+    word: &[u8],
+    end: End,
+    out: &mut S,
+) -> Result<End, Stop>
+    ensures told { IsTold
+        (IsRefusalFor (Script line) (record { code = code; name = name.now; count = count }) (status_of end))
+        (S.written out.old) (S.written out.new) result }
+    ensures same { IfOk result (λ ended. ended ≡ end) }
+    ensures no_read { IfErr result (λ stop. stop ≢ Stop.Read) }
+    ensures write { S.faults out.new ≡ faults_written (S.faults out.old) result }
+    ensures refused { IsRefusedOnce (S.refusals out.old) (S.refusals out.new) result }
+{
+    let ended = write_refusal(alloc, FaultPlace::Script(line), code, name, count, end, out);
+    if ended.is_ok() {
+        let file = NotedFile::Script;
+        note_symbolic_cure(alloc, file, Some(line), code.text(), word, out);
+    }
+    ended
+}
+
+// Writes the line of a refusal that tells of a node by its name, and a count, and ends the run so.
+fn write_refusal<S: Sink>(
+    alloc: Global,
+    place: FaultPlace,
+    code: FaultCode,
+    name: &[u8],
+    count: u64,
+    end: End,
+    out: &mut S,
+) -> Result<End, Stop>
+    ensures told { IsTold
+        (IsRefusalFor place (record { code = code; name = name.now; count = count }) (status_of end))
+        (S.written out.old) (S.written out.new) result }
+    ensures same { IfOk result (λ ended. ended ≡ end) }
+    ensures no_read { IfErr result (λ stop. stop ≢ Stop.Read) }
+    ensures write { S.faults out.new ≡ faults_written (S.faults out.old) result }
+    ensures refused { IsRefusedOnce (S.refusals out.old) (S.refusals out.new) result }
+{
     let mut line = LineBuf::new(alloc, FAULT_LINE_ROOM + name.len())?;
     fault_line(&mut line, place, code, name, count);
     match send(out, line.bytes()) {
-        Ok(()) => {
-            note_at(alloc, place, code, word, out);
-            Ok(end)
-        }
+        Ok(()) => Ok(end),
         Err(fault) => Err(Stop::of_write(fault)),
     }
 }
