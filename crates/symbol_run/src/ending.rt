@@ -18,9 +18,9 @@ use group_analysis::Analyst;
 use netlist::Circuit;
 use node_words::Vectors;
 use ports::Sink;
-use printed_lines::{FaultCode, FaultPlace};
-use refusal_words::script_word;
-use run_ends::{End, Stop, refuse, refuse_named};
+use printed_lines::FaultCode;
+use refusal_words::symbolic_word;
+use run_ends::{End, Stop, refuse_symbolic, refuse_symbolic_named};
 use script_meaning::Halt;
 use script_run::size_cause;
 use std::alloc::Global;
@@ -77,15 +77,13 @@ fn end_script<S: Sink + Drop>(
     match halt {
         Halt::End => end_by_names(alloc, stop, circuit, vectors, text, out),
         Halt::Refused(line, code) => {
-            let word = script_word(code, text, line, circuit, vectors, 1);
-            let place = FaultPlace::Script(line);
-            refuse(alloc, place, code, word, End::ScriptRefused, out)
+            let word = symbolic_word(alloc, code, text, line, circuit, vectors);
+            refuse_symbolic(alloc, line, code, word, End::ScriptRefused, out)
         }
         Halt::TooLarge(line, size) => {
             let (code, name, count) = size_cause(circuit, size);
-            let place = FaultPlace::Script(line);
             let end = End::ScriptRefused;
-            refuse_named(alloc, place, code, name, count, name, end, out)
+            refuse_symbolic_named(alloc, line, code, name, count, name, end, out)
         }
     }
 }
@@ -108,9 +106,8 @@ fn end_by_names<S: Sink + Drop>(
     match stop {
         Some((line, fault)) => {
             let code = name_code(fault);
-            let word = script_word(code, text, line, circuit, vectors, 1);
-            let place = FaultPlace::Script(line);
-            refuse(alloc, place, code, word, End::ScriptRefused, out)
+            let word = symbolic_word(alloc, code, text, line, circuit, vectors);
+            refuse_symbolic(alloc, line, code, word, End::ScriptRefused, out)
         }
         None => Ok(ending_with(out.missed())),
     }

@@ -28,32 +28,32 @@ returns-in-End-clause-part g c =
 
 pub returns-in-Refused-clause-ok : goal.returns-in-Refused-clause-ok
 returns-in-Refused-clause-ok g c =
-    subst (λ (halt : Halt). OnOk c.refuse.result (g.S.Sink.written c.refuse.new.out
+    subst (λ (halt : Halt). OnOk c.refuse_symbolic.result (g.S.Sink.written c.refuse_symbolic.new.out
     ≡ append_known (g.S.Sink.written c.args.out.now) (cause_text c.args.circuit.now halt c.args.stop))) (sym c.in-Refused.is)
     (refused_whole (Script c.in-Refused.line) (plain_cause c.in-Refused.code) ScriptRefused (g.S.Sink.written c.args.out.now)
-    (g.S.Sink.written c.refuse.new.out) c.refuse.result c.refuse.ensures.told)
+    (g.S.Sink.written c.refuse_symbolic.new.out) c.refuse_symbolic.result c.refuse_symbolic.ensures.told)
 
 pub returns-in-Refused-clause-part : goal.returns-in-Refused-clause-part
 returns-in-Refused-clause-part g c =
-    subst (λ (halt : Halt). OnErr c.refuse.result (WritesPart (g.S.Sink.written c.args.out.now) (g.S.Sink.written c.refuse.new.out)
+    subst (λ (halt : Halt). OnErr c.refuse_symbolic.result (WritesPart (g.S.Sink.written c.args.out.now) (g.S.Sink.written c.refuse_symbolic.new.out)
     (cause_text c.args.circuit.now halt c.args.stop))) (sym c.in-Refused.is)
     (refused_part (Script c.in-Refused.line) (plain_cause c.in-Refused.code) ScriptRefused (g.S.Sink.written c.args.out.now)
-    (g.S.Sink.written c.refuse.new.out) c.refuse.result c.refuse.ensures.told)
+    (g.S.Sink.written c.refuse_symbolic.new.out) c.refuse_symbolic.result c.refuse_symbolic.ensures.told)
 
 pub returns-in-TooLarge-clause-ok : goal.returns-in-TooLarge-clause-ok
 returns-in-TooLarge-clause-ok g c =
-    subst (λ (halt : Halt). OnOk c.refuse_named.result (g.S.Sink.written c.refuse_named.new.out
+    subst (λ (halt : Halt). OnOk c.refuse_symbolic_named.result (g.S.Sink.written c.refuse_symbolic_named.new.out
     ≡ append_known (g.S.Sink.written c.args.out.now) (cause_text c.args.circuit.now halt c.args.stop))) (sym c.in-TooLarge.is)
-    (subst (λ (cause : Option Cause). OnOk c.refuse_named.result (g.S.Sink.written c.refuse_named.new.out
+    (subst (λ (cause : Option Cause). OnOk c.refuse_symbolic_named.result (g.S.Sink.written c.refuse_symbolic_named.new.out
     ≡ append_known (g.S.Sink.written c.args.out.now) (option_map_or (cause_line (Script c.in-TooLarge.line)) cause []))) (sym c.size_cause-code.ensures)
-    (refused_whole (Script c.in-TooLarge.line) _ ScriptRefused (g.S.Sink.written c.args.out.now) (g.S.Sink.written c.refuse_named.new.out)
-    c.refuse_named.result c.refuse_named.ensures.told))
+    (refused_whole (Script c.in-TooLarge.line) _ ScriptRefused (g.S.Sink.written c.args.out.now) (g.S.Sink.written c.refuse_symbolic_named.new.out)
+    c.refuse_symbolic_named.result c.refuse_symbolic_named.ensures.told))
 
 pub returns-in-TooLarge-clause-part : goal.returns-in-TooLarge-clause-part
 returns-in-TooLarge-clause-part g c =
-    subst (λ (halt : Halt). OnErr c.refuse_named.result (WritesPart (g.S.Sink.written c.args.out.now) (g.S.Sink.written c.refuse_named.new.out)
+    subst (λ (halt : Halt). OnErr c.refuse_symbolic_named.result (WritesPart (g.S.Sink.written c.args.out.now) (g.S.Sink.written c.refuse_symbolic_named.new.out)
     (cause_text c.args.circuit.now halt c.args.stop))) (sym c.in-TooLarge.is)
-    (subst (λ (cause : Option Cause). OnErr c.refuse_named.result (WritesPart (g.S.Sink.written c.args.out.now) (g.S.Sink.written c.refuse_named.new.out)
+    (subst (λ (cause : Option Cause). OnErr c.refuse_symbolic_named.result (WritesPart (g.S.Sink.written c.args.out.now) (g.S.Sink.written c.refuse_symbolic_named.new.out)
     (option_map_or (cause_line (Script c.in-TooLarge.line)) cause []))) (sym c.size_cause-code.ensures)
-    (refused_part (Script c.in-TooLarge.line) _ ScriptRefused (g.S.Sink.written c.args.out.now) (g.S.Sink.written c.refuse_named.new.out)
-    c.refuse_named.result c.refuse_named.ensures.told))
+    (refused_part (Script c.in-TooLarge.line) _ ScriptRefused (g.S.Sink.written c.args.out.now) (g.S.Sink.written c.refuse_symbolic_named.new.out)
+    c.refuse_symbolic_named.result c.refuse_symbolic_named.ensures.told))

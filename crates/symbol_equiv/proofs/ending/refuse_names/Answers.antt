@@ -14,21 +14,21 @@ use Rattle.symbol_equiv.proofs.ending.refuse_names.Goals as goal
 
 pub returns-in-Some-clause-ok : goal.returns-in-Some-clause-ok
 returns-in-Some-clause-ok g c =
-    subst (λ (stop : Option NamedStop). OnOk c.refuse.result (g.S.Sink.written c.refuse.new.out
+    subst (λ (stop : Option NamedStop). OnOk c.refuse_symbolic.result (g.S.Sink.written c.refuse_symbolic.new.out
     ≡ append_known (g.S.Sink.written c.args.out.now) (names_text stop))) (sym c.in-Some.is)
-    (subst (λ (code : FaultCode). OnOk c.refuse.result (g.S.Sink.written c.refuse.new.out
+    (subst (λ (code : FaultCode). OnOk c.refuse_symbolic.result (g.S.Sink.written c.refuse_symbolic.new.out
     ≡ append_known (g.S.Sink.written c.args.out.now) (cause_line (Script c.in-Some.line) (plain_cause code)))) c.name_code-code.ensures
     (refused_whole (Script c.in-Some.line) (plain_cause c.name_code-code.result) ScriptRefused (g.S.Sink.written c.args.out.now)
-    (g.S.Sink.written c.refuse.new.out) c.refuse.result c.refuse.ensures.told))
+    (g.S.Sink.written c.refuse_symbolic.new.out) c.refuse_symbolic.result c.refuse_symbolic.ensures.told))
 
 pub returns-in-Some-clause-part : goal.returns-in-Some-clause-part
 returns-in-Some-clause-part g c =
-    subst (λ (stop : Option NamedStop). OnErr c.refuse.result (WritesPart (g.S.Sink.written c.args.out.now) (g.S.Sink.written c.refuse.new.out)
+    subst (λ (stop : Option NamedStop). OnErr c.refuse_symbolic.result (WritesPart (g.S.Sink.written c.args.out.now) (g.S.Sink.written c.refuse_symbolic.new.out)
     (names_text stop))) (sym c.in-Some.is)
-    (subst (λ (code : FaultCode). OnErr c.refuse.result (WritesPart (g.S.Sink.written c.args.out.now) (g.S.Sink.written c.refuse.new.out)
+    (subst (λ (code : FaultCode). OnErr c.refuse_symbolic.result (WritesPart (g.S.Sink.written c.args.out.now) (g.S.Sink.written c.refuse_symbolic.new.out)
     (cause_line (Script c.in-Some.line) (plain_cause code)))) c.name_code-code.ensures
     (refused_part (Script c.in-Some.line) (plain_cause c.name_code-code.result) ScriptRefused (g.S.Sink.written c.args.out.now)
-    (g.S.Sink.written c.refuse.new.out) c.refuse.result c.refuse.ensures.told))
+    (g.S.Sink.written c.refuse_symbolic.new.out) c.refuse_symbolic.result c.refuse_symbolic.ensures.told))
 
 pub returns-in-None-clause-ok : goal.returns-in-None-clause-ok
 returns-in-None-clause-ok g c =

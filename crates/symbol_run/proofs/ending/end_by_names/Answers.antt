@@ -15,26 +15,26 @@ use Rattle.symbol_run.proofs.ending.end_by_names.Goals as goal
 
 pub returns-in-Some-clause-ok : goal.returns-in-Some-clause-ok
 returns-in-Some-clause-ok g c =
-    subst (λ (stop : Option NamedStop). OnOk c.refuse.result (c.refuse.new.out.page.written
+    subst (λ (stop : Option NamedStop). OnOk c.refuse_symbolic.result (c.refuse_symbolic.new.out.page.written
     ≡ append_known c.args.out.now.page.written (names_text stop))) (sym c.in-Some.is)
-    (subst (λ (code : FaultCode). OnOk c.refuse.result (c.refuse.new.out.page.written
+    (subst (λ (code : FaultCode). OnOk c.refuse_symbolic.result (c.refuse_symbolic.new.out.page.written
     ≡ append_known c.args.out.now.page.written (cause_line (Script c.in-Some.line) (plain_cause code)))) c.name_code-code.ensures
-    (refused_whole (Script c.in-Some.line) (plain_cause c.name_code-code.result) ScriptRefused c.args.out.now.page.written c.refuse.new.out.page.written
-    c.refuse.result c.refuse.ensures.told))
+    (refused_whole (Script c.in-Some.line) (plain_cause c.name_code-code.result) ScriptRefused c.args.out.now.page.written c.refuse_symbolic.new.out.page.written
+    c.refuse_symbolic.result c.refuse_symbolic.ensures.told))
 
 pub returns-in-Some-clause-part : goal.returns-in-Some-clause-part
 returns-in-Some-clause-part g c =
-    subst (λ (stop : Option NamedStop). OnErr c.refuse.result (WritesPart c.args.out.now.page.written c.refuse.new.out.page.written
+    subst (λ (stop : Option NamedStop). OnErr c.refuse_symbolic.result (WritesPart c.args.out.now.page.written c.refuse_symbolic.new.out.page.written
     (names_text stop))) (sym c.in-Some.is)
-    (subst (λ (code : FaultCode). OnErr c.refuse.result (WritesPart c.args.out.now.page.written c.refuse.new.out.page.written
+    (subst (λ (code : FaultCode). OnErr c.refuse_symbolic.result (WritesPart c.args.out.now.page.written c.refuse_symbolic.new.out.page.written
     (cause_line (Script c.in-Some.line) (plain_cause code)))) c.name_code-code.ensures
-    (refused_part (Script c.in-Some.line) (plain_cause c.name_code-code.result) ScriptRefused c.args.out.now.page.written c.refuse.new.out.page.written
-    c.refuse.result c.refuse.ensures.told))
+    (refused_part (Script c.in-Some.line) (plain_cause c.name_code-code.result) ScriptRefused c.args.out.now.page.written c.refuse_symbolic.new.out.page.written
+    c.refuse_symbolic.result c.refuse_symbolic.ensures.told))
 
 pub returns-in-Some-clause-ends : goal.returns-in-Some-clause-ends
 returns-in-Some-clause-ends g c =
-    subst (λ (stop : Option NamedStop). IfOk c.refuse.result (λ ended. ended ≡ ending_of End stop c.args.out.now.page.missed)) (sym c.in-Some.is)
-    c.refuse.ensures.same
+    subst (λ (stop : Option NamedStop). IfOk c.refuse_symbolic.result (λ ended. ended ≡ ending_of End stop c.args.out.now.page.missed)) (sym c.in-Some.is)
+    c.refuse_symbolic.ensures.same
 
 pub returns-in-None-clause-ok : goal.returns-in-None-clause-ok
 returns-in-None-clause-ok g c =

@@ -33,42 +33,42 @@ returns-in-End-clause-ends g c =
 
 pub returns-in-Refused-clause-ok : goal.returns-in-Refused-clause-ok
 returns-in-Refused-clause-ok g c =
-    subst (λ (halt : Halt). OnOk c.refuse.result (c.refuse.new.out.page.written
+    subst (λ (halt : Halt). OnOk c.refuse_symbolic.result (c.refuse_symbolic.new.out.page.written
     ≡ append_known c.args.out.now.page.written (cause_text c.args.circuit.now halt c.args.stop))) (sym c.in-Refused.is)
-    (refused_whole (Script c.in-Refused.line) (plain_cause c.in-Refused.code) ScriptRefused c.args.out.now.page.written c.refuse.new.out.page.written
-    c.refuse.result c.refuse.ensures.told)
+    (refused_whole (Script c.in-Refused.line) (plain_cause c.in-Refused.code) ScriptRefused c.args.out.now.page.written c.refuse_symbolic.new.out.page.written
+    c.refuse_symbolic.result c.refuse_symbolic.ensures.told)
 
 pub returns-in-Refused-clause-part : goal.returns-in-Refused-clause-part
 returns-in-Refused-clause-part g c =
-    subst (λ (halt : Halt). OnErr c.refuse.result (WritesPart c.args.out.now.page.written c.refuse.new.out.page.written
+    subst (λ (halt : Halt). OnErr c.refuse_symbolic.result (WritesPart c.args.out.now.page.written c.refuse_symbolic.new.out.page.written
     (cause_text c.args.circuit.now halt c.args.stop))) (sym c.in-Refused.is)
-    (refused_part (Script c.in-Refused.line) (plain_cause c.in-Refused.code) ScriptRefused c.args.out.now.page.written c.refuse.new.out.page.written
-    c.refuse.result c.refuse.ensures.told)
+    (refused_part (Script c.in-Refused.line) (plain_cause c.in-Refused.code) ScriptRefused c.args.out.now.page.written c.refuse_symbolic.new.out.page.written
+    c.refuse_symbolic.result c.refuse_symbolic.ensures.told)
 
 pub returns-in-Refused-clause-ends : goal.returns-in-Refused-clause-ends
 returns-in-Refused-clause-ends g c =
-    subst (λ (halt : Halt). IfOk c.refuse.result (λ ended. ended ≡ ending_of halt c.args.stop c.args.out.now.page.missed)) (sym c.in-Refused.is)
-    c.refuse.ensures.same
+    subst (λ (halt : Halt). IfOk c.refuse_symbolic.result (λ ended. ended ≡ ending_of halt c.args.stop c.args.out.now.page.missed)) (sym c.in-Refused.is)
+    c.refuse_symbolic.ensures.same
 
 pub returns-in-TooLarge-clause-ok : goal.returns-in-TooLarge-clause-ok
 returns-in-TooLarge-clause-ok g c =
-    subst (λ (halt : Halt). OnOk c.refuse_named.result (c.refuse_named.new.out.page.written
+    subst (λ (halt : Halt). OnOk c.refuse_symbolic_named.result (c.refuse_symbolic_named.new.out.page.written
     ≡ append_known c.args.out.now.page.written (cause_text c.args.circuit.now halt c.args.stop))) (sym c.in-TooLarge.is)
-    (subst (λ (cause : Option Cause). OnOk c.refuse_named.result (c.refuse_named.new.out.page.written
+    (subst (λ (cause : Option Cause). OnOk c.refuse_symbolic_named.result (c.refuse_symbolic_named.new.out.page.written
     ≡ append_known c.args.out.now.page.written (option_map_or (cause_line (Script c.in-TooLarge.line)) cause []))) (sym c.size_cause-code.ensures)
-    (refused_whole (Script c.in-TooLarge.line) _ ScriptRefused c.args.out.now.page.written c.refuse_named.new.out.page.written c.refuse_named.result
-    c.refuse_named.ensures.told))
+    (refused_whole (Script c.in-TooLarge.line) _ ScriptRefused c.args.out.now.page.written c.refuse_symbolic_named.new.out.page.written c.refuse_symbolic_named.result
+    c.refuse_symbolic_named.ensures.told))
 
 pub returns-in-TooLarge-clause-part : goal.returns-in-TooLarge-clause-part
 returns-in-TooLarge-clause-part g c =
-    subst (λ (halt : Halt). OnErr c.refuse_named.result (WritesPart c.args.out.now.page.written c.refuse_named.new.out.page.written
+    subst (λ (halt : Halt). OnErr c.refuse_symbolic_named.result (WritesPart c.args.out.now.page.written c.refuse_symbolic_named.new.out.page.written
     (cause_text c.args.circuit.now halt c.args.stop))) (sym c.in-TooLarge.is)
-    (subst (λ (cause : Option Cause). OnErr c.refuse_named.result (WritesPart c.args.out.now.page.written c.refuse_named.new.out.page.written
+    (subst (λ (cause : Option Cause). OnErr c.refuse_symbolic_named.result (WritesPart c.args.out.now.page.written c.refuse_symbolic_named.new.out.page.written
     (option_map_or (cause_line (Script c.in-TooLarge.line)) cause []))) (sym c.size_cause-code.ensures)
-    (refused_part (Script c.in-TooLarge.line) _ ScriptRefused c.args.out.now.page.written c.refuse_named.new.out.page.written c.refuse_named.result
-    c.refuse_named.ensures.told))
+    (refused_part (Script c.in-TooLarge.line) _ ScriptRefused c.args.out.now.page.written c.refuse_symbolic_named.new.out.page.written c.refuse_symbolic_named.result
+    c.refuse_symbolic_named.ensures.told))
 
 pub returns-in-TooLarge-clause-ends : goal.returns-in-TooLarge-clause-ends
 returns-in-TooLarge-clause-ends g c =
-    subst (λ (halt : Halt). IfOk c.refuse_named.result (λ ended. ended ≡ ending_of halt c.args.stop c.args.out.now.page.missed)) (sym c.in-TooLarge.is)
-    c.refuse_named.ensures.same
+    subst (λ (halt : Halt). IfOk c.refuse_symbolic_named.result (λ ended. ended ≡ ending_of halt c.args.stop c.args.out.now.page.missed)) (sym c.in-TooLarge.is)
+    c.refuse_symbolic_named.ensures.same
