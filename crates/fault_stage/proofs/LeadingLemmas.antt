@@ -1,0 +1,114 @@
+-- A machine that is led from graph to graph between runs: where its run is over, where it starts again, and where it was led and finished.
+use Rattle.std.proofs.Common.{◌≡◌, true, false, List, length, Option, None, Some, refl, sym, ap, subst, ◌∙◌}
+use Rattle.std.specs.Prelude.{IfSome, is_some}
+use Rattle.ternary.specs.declared.tern.Tern.{Tern}
+use Rattle.switch_paths.specs.Graphs.{GraphData}
+use Rattle.switch_paths.specs.Rails.{IsSound}
+use Rattle.group_text.specs.Texts.{GroupTextData}
+use Rattle.vicinity.specs.NodeSets.{NodeSetData}
+use Rattle.machine_laws.specs.Machines.{MachineData}
+use Rattle.machine_laws.specs.Fitting.{Covers, IsKeptBy}
+use Rattle.machine_laws.specs.Editing.{KeepsCoded}
+use Rattle.unit_step.specs.Restarting.{MarksParts, Restarts}
+use Rattle.edits_between.specs.Leading.{CodedAreAlike, LedBy, last_in}
+use Rattle.beside.specs.Fitting.{all_marked}
+use Rattle.beside_run.specs.Running.{HasUncoded}
+use Rattle.beside_run.proofs.RunningLemmas.{marked_is}
+use Rattle.beside_run.proofs.TouchingLemmas.{alike_finished}
+use Rattle.fault_stage.specs.declared.built.Built.{Built}
+use Rattle.fault_stage.specs.declared.waiting.LastRun.{LastRun}
+use Rattle.fault_stage.specs.Runs.{IsBuilt, IsCovered, IsCoveredIn, IsLastRun, IsLed, IsLedIn, IsTouched}
+use Rattle.fault_stage.specs.Stages.{texts_in}
+use Rattle.fault_stage.proofs.CourseLemmas.{fits_anyway}
+use Rattle.fault_stage.proofs.KnownLemmas.{known_held}
+
+-- the texts of a last build are told in one way and in the other
+pub texts_same : (slot : Option MachineData) → texts_in slot ≡ last_in slot
+texts_same None = refl
+texts_same (Some machine) = refl
+
+-- where a run is over, with all its parts marked the machine covers its graph
+pub covered_ended : (b : Built) (new : MachineData) → IsBuilt b → length b.machine.marks ≡ length b.machine.parts → MarksParts b.machine new →
+    IsCovered b.graph new
+covered_ended b new built counted marks =
+    let is : new ≡ all_marked b.machine = marked_is b.machine new counted marks in
+    let fits = fits_anyway b.good b.graph b.machine b.state.items b.course built.goes in
+    subst (IsCovered b.graph) (sym is) (record { covers = fits.covers; known = built.known; sound = fits.sound })
+
+-- and its texts are those of its last build
+pub last_ended : (old new : MachineData) → MarksParts old new → new.last ≡ old.last
+last_ended old new marks = ap (λ (m : MachineData). m.last) marks.rest
+
+-- it starts again in another state
+pub covered_again : (g : GraphData) (state : List Tern) (old new : MachineData) → IsCovered g old → IsSound state → Restarts g state old new →
+    IsCoveredIn g state new
+covered_again g state old new covered sound restarts = record {
+  covered = record {
+    covers = restarts.covers covered.covers;
+    known = known_held g old new restarts.held restarts.build.last covered.known;
+    sound = subst IsSound (sym restarts.state_is) sound;
+  };
+  state_is = restarts.state_is;
+}
+
+-- what it covers then
+pub covers_again : (g : GraphData) (state : List Tern) (slot : Option MachineData) → IfSome slot (IsCoveredIn g state) → IfSome slot (Covers g)
+covers_again g state None covered = tt
+covers_again g state (Some machine) covered = covered.covered.covers
+
+-- it was led
+pub led_there : (f g h : GraphData) (state : List Tern) (old new : Option MachineData) → IsSound state → IfSome old (IsCoveredIn f state) →
+    is_some new ≡ true → LedBy f g h old new → IsLedIn g h state new
+led_there f g h state None new sound covered there (none, alike) = absurd (let is : is_some new ≡ false = ap is_some none in cc (is, there))
+led_there f g h state (Some old) new sound covered there ((machine, is, led), alike) =
+    let known : IsKeptBy h old.last machine = led.known old.last covered.covered.known in
+    let state_is = led.state ∙ covered.state_is in
+    record {
+      machine = machine;
+      there = is;
+      led = record {
+        covered = record {
+          covers = led.covers;
+          known = subst (λ (texts : List GroupTextData). IsKeptBy h texts machine) (sym led.last) known;
+          sound = subst IsSound (sym state_is) sound;
+        };
+        state_is = state_is;
+        alike = subst (λ (slot : Option MachineData). IfSome slot (CodedAreAlike g h)) is alike;
+      };
+    }
+
+-- so it covers the graph that it was led to
+pub last_run_led : (l : LastRun) (base g : GraphData) (state : List Tern) → l.graph ≡ g → IsLedIn base g state l.machine → IsLastRun l
+last_run_led l base g state graph led covered =
+    subst (λ (slot : Option MachineData). IfSome slot (IsCovered l.graph)) (sym led.there)
+    (subst (λ (f : GraphData). IsCovered f led.machine) (sym graph) led.led.covered)
+
+-- the machine that is there was led
+pub led_machine : (base g : GraphData) (state : List Tern) (found : Option MachineData) (machine : MachineData) → found ≡ Some machine →
+    IsLedIn base g state found → IsLed base g state machine
+led_machine base g state found machine is led =
+    let same : Some led.machine ≡ Some machine = sym led.there ∙ is in
+    let one : led.machine ≡ machine = cc in
+    subst (IsLed base g state) one led.led
+
+-- and there is one
+pub led_some : (base g : GraphData) (state : List Tern) (found : Option MachineData) → found ≡ None → IsLedIn base g state found → ⊥
+led_some base g state found none led = let same : Some led.machine ≡ None = sym led.there ∙ none in absurd (cc (same))
+
+-- once it was finished, the parts that had code stand alike in both graphs
+pub touched_finished : (base g : GraphData) (state : List Tern) (m new : MachineData) (touched : NodeSetData) → IsLed base g state m → HasUncoded m touched →
+    length m.marks ≡ length m.parts → length new.marks ≡ length new.parts → KeepsCoded m new → IsTouched base g new touched
+touched_finished base g state m new touched led has counted counted_new keeps =
+    let count : length new.parts ≡ length m.parts = sym counted_new ∙ ap length keeps.marks ∙ counted in
+    record { counted = has.counted ∙ sym count; alike = alike_finished base g m new touched led.alike has count keeps }
+
+-- where it is known which these are
+pub touched_if : (base g : GraphData) (state : List Tern) (m new : MachineData) (found : Option NodeSetData) → IsLed base g state m →
+    IfSome found (HasUncoded m) → length m.marks ≡ length m.parts → length new.marks ≡ length new.parts → KeepsCoded m new →
+    IfSome found (IsTouched base g new)
+touched_if base g state m new None led has counted counted_new keeps = tt
+touched_if base g state m new (Some touched) led has counted counted_new keeps = touched_finished base g state m new touched led has counted counted_new keeps
+
+-- its texts are those of the machine that was there
+pub texts_led : (old found : Option MachineData) (machine : MachineData) → found ≡ Some machine → texts_in found ≡ texts_in old → machine.last ≡ texts_in old
+texts_led old found machine is same = ap texts_in (sym is) ∙ same

@@ -1,0 +1,6 @@
+pub mod FrontLemmas
+pub mod KnownLemmas
+pub mod BuildingLemmas
+pub mod CourseLemmas
+pub mod LeadingLemmas
+pub mod StayingLemmas

@@ -1,0 +1,34 @@
+-- The numbers are those of what is held.
+use Rattle.std.proofs.Common.{◌≡◌, ℕ, List, length, sym, subst}
+use Rattle.switch_paths.specs.Graphs.{GraphData}
+use Rattle.group_text.specs.FirstTexts.{first_texts}
+use Rattle.group_text.specs.Texts.{GroupTextData}
+use Rattle.circuit_texts.specs.Building.{HasTexts}
+use Rattle.fault_stage.specs.declared.held.Held.{Held}
+use Rattle.fault_stage.specs.Runs.{IsWell}
+use Rattle.fault_stage.specs.Stages.{FaultData, FitsIn, data_of}
+use Rattle.fault_stage.proofs.stage.FaultStage.text_count.Goals as goal
+
+pub texts-requires : goal.texts-requires
+texts-requires c =
+    subst (λ (held : Held). FitsIn (data_of held) c.args.graph.now) c.in-Whole.is
+    (subst (λ (stage : FaultData). FitsIn stage c.args.graph.now) (sym c.self.view_is) c.requires)
+
+pub returns-in-Whole : goal.returns-in-Whole
+returns-in-Whole c = c.texts.ensures
+
+pub text_count-requires : goal.text_count-requires
+text_count-requires c = subst IsWell c.in-Built.is c.self.invariant
+
+pub returns-in-Built : goal.returns-in-Built
+returns-in-Built c =
+    let fits : c.args.graph.now ≡ c.in-Built.built.graph =
+    subst (λ (held : Held). FitsIn (data_of held) c.args.graph.now) c.in-Built.is
+    (subst (λ (stage : FaultData). FitsIn stage c.args.graph.now) (sym c.self.view_is) c.requires) in
+    subst (λ (h : GraphData). (large : ℕ) (texts : List GroupTextData) → HasTexts large h texts → c.text_count.result ≡ length (first_texts texts)) (sym fits)
+    c.text_count.ensures
+
+pub returns-in-Waiting : goal.returns-in-Waiting
+returns-in-Waiting c =
+    absurd (subst (λ (held : Held). FitsIn (data_of held) c.args.graph.now) c.in-Waiting.is
+    (subst (λ (stage : FaultData). FitsIn stage c.args.graph.now) (sym c.self.view_is) c.requires))

@@ -1,0 +1,490 @@
+//! What is built: the machine of the first run, which is recorded; that of the last run, led to the graph; or a whole one.
+
+ghost use Rattle.std.specs.Prelude.{◌≡◌, ◌⊎◌, true, Err, None, Some, IfErr, IfOk, IfSome, OnErr};
+ghost use Rattle.std.specs.Bool.{OnTrue};
+ghost use Rattle.switch_paths.specs.Rails.{IsRailed};
+ghost use Rattle.group_analysis.specs.Using.{used_texts};
+ghost use Rattle.analysis_cache.specs.Keeping.{texts_of};
+ghost use Rattle.circuit_texts.specs.Building.{IsCutOff};
+ghost use Rattle.circuit_texts.specs.Sizes.{TellsRefused};
+ghost use Rattle.column_stage.specs.Columns.{AreAmong, IsSoundState};
+ghost use Rattle.good_phases.specs.Phases.{BeginsGood};
+ghost use Rattle.fault_stage.specs.Building.{BeginsGoodIn, BuildsAnew, BuildsStage, FinishesNext, PutsLast};
+ghost use Rattle.fault_stage.specs.Runs.{IsBuilt, IsCovered, IsLastRun, IsLed, IsWell};
+ghost use Rattle.fault_stage.specs.Stages.{Plain, Ready, ServesIn, ServesReady, StandInFront, Waits, data_of, last_in, ready_of, state_of, texts_held, texts_in, wait_of};
+
+use crate::beginning::{course_of, touched_in};
+use crate::built::{Built, Course};
+use crate::held::Held;
+use crate::waiting::{LastRun, Waiting};
+use analysis_cache::{Analyst, Kept};
+use circuit_texts::BuildFault;
+use column_stage::{Columns, PlainStage};
+use good_phases::GoodPhases;
+use machine_stage::MachineStage;
+use std::alloc::Global;
+use switch_paths::Graph;
+use ternary::{NoMemory, Tern};
+use unit_step::{Codes, Machine};
+
+// How many parts a machine may always have that groups left which are gone.
+const MOST_LEFT: usize = 16;
+
+/// Builds what is held, and answers what is held then.
+pub(crate) fn build_held<A: Analyst>(
+    alloc: Global,
+    held: Held,
+    graph: &Graph,
+    large: usize,
+    kept: &mut Kept,
+    analyst: &mut A,
+) -> (Held, Result<u64, BuildFault>)
+    requires well { IsWell held }
+    requires railed { IsRailed graph.now }
+    requires sound { IsSoundState graph.now (state_of (data_of held)) }
+    requires serves { ServesIn (data_of held) graph.now (used_texts (last_in (data_of held)) (texts_of kept.old)) }
+    requires last { AreAmong (last_in (data_of held)) (texts_of kept.old) }
+    ensures well { IsWell result.0 }
+    ensures builds { BuildsStage large graph.now kept.old.bound (data_of held) (data_of result.0) (texts_of kept.old) (texts_of kept.new) (A.analysed analyst.old) (A.analysed analyst.new) result.1 }
+    ensures bound { kept.new.bound ≡ kept.old.bound }
+    ensures refused { IfErr result.1 (λ fault. (fault ≡ BuildFault.NoMemory)
+        ⊎ (TellsRefused large graph.now fault × (kept.new ≡ kept.old) × (A.analysed analyst.new ≡ A.analysed analyst.old))) }
+{
+    match held {
+        Held::Whole(stage) => build_whole(alloc, stage, graph, large, kept, analyst),
+        Held::Built(built) => build_again(alloc, built, graph, large, kept, analyst),
+        Held::Waiting(waiting) => build_waiting(alloc, waiting, graph, large, kept, analyst),
+    }
+}
+
+// Builds a stage that holds on to nothing, as ever.
+fn build_whole<A: Analyst>(
+    alloc: Global,
+    stage: MachineStage,
+    graph: &Graph,
+    large: usize,
+    kept: &mut Kept,
+    analyst: &mut A,
+) -> (Held, Result<u64, BuildFault>)
+    requires railed { IsRailed graph.now }
+    requires sound { IsSoundState graph.now stage.state }
+    requires serves { ServesIn (Plain stage) graph.now (used_texts (last_in (Plain stage)) (texts_of kept.old)) }
+    requires last { AreAmong (last_in (Plain stage)) (texts_of kept.old) }
+    ensures well { IsWell result.0 }
+    ensures builds { BuildsStage large graph.now kept.old.bound (Plain stage) (data_of result.0) (texts_of kept.old) (texts_of kept.new) (A.analysed analyst.old) (A.analysed analyst.new) result.1 }
+    ensures bound { kept.new.bound ≡ kept.old.bound }
+    ensures refused { IfErr result.1 (λ fault. (fault ≡ BuildFault.NoMemory)
+        ⊎ (TellsRefused large graph.now fault × (kept.new ≡ kept.old) × (A.analysed analyst.new ≡ A.analysed analyst.old))) }
+{
+    let mut stage = stage;
+    let told = stage.build(alloc, graph, large, kept, analyst);
+    (Held::Whole(stage), told)
+}
+
+// Builds what is built already: nothing is new. If groups without a text may have another number of members, or what is kept has a
+// bound, a whole machine is built.
+fn build_again<A: Analyst>(
+    alloc: Global,
+    built: Built,
+    graph: &Graph,
+    large: usize,
+    kept: &mut Kept,
+    analyst: &mut A,
+) -> (Held, Result<u64, BuildFault>)
+    requires built { IsBuilt built }
+    requires railed { IsRailed graph.now }
+    requires sound { IsSoundState graph.now built.state.items }
+    requires serves { ServesReady (ready_of built) graph.now (texts_of kept.old) }
+    ensures well { IsWell result.0 }
+    ensures builds { BuildsStage large graph.now kept.old.bound (Ready (ready_of built)) (data_of result.0) (texts_of kept.old) (texts_of kept.new) (A.analysed analyst.old) (A.analysed analyst.new) result.1 }
+    ensures bound { kept.new.bound ≡ kept.old.bound }
+    ensures refused { IfErr result.1 (λ fault. (fault ≡ BuildFault.NoMemory)
+        ⊎ (TellsRefused large graph.now fault × (kept.new ≡ kept.old) × (A.analysed analyst.new ≡ A.analysed analyst.old))) }
+{
+    if is_again(large, built.large, kept) {
+        return (Held::Built(built), Ok(0));
+    }
+    match build_anew(alloc, &built.state, graph, large, kept, analyst) {
+        Ok((stage, fresh)) => (Held::Whole(stage), Ok(fresh)),
+        Err(fault) => (Held::Built(built), Err(fault)),
+    }
+}
+
+// Whether a build would find nothing new that comes behind one for which groups without a text might have so many members.
+fn is_again(large: usize, at_build: usize, kept: &Kept) -> bool
+    ensures large { OnTrue result (at_build ≡ large) }
+    ensures unbounded { OnTrue result (kept.now.bound ≡ None) }
+{
+    if at_build != large {
+        return false;
+    }
+    if let Some(_bound) = kept.bound() {
+        return false;
+    }
+    true
+}
+
+// Builds a stage that waits: the machine of its last run is led to the graph, and if there was no run this one is recorded.
+fn build_waiting<A: Analyst>(
+    alloc: Global,
+    waiting: Waiting,
+    graph: &Graph,
+    large: usize,
+    kept: &mut Kept,
+    analyst: &mut A,
+) -> (Held, Result<u64, BuildFault>)
+    requires last_run { IfSome waiting.last_run IsLastRun }
+    requires railed { IsRailed graph.now }
+    requires sound { IsSoundState graph.now waiting.state.items }
+    requires front { StandInFront (texts_held waiting.last_run) (texts_of kept.old) }
+    ensures well { IsWell result.0 }
+    ensures builds { BuildsStage large graph.now kept.old.bound (Waits (wait_of waiting)) (data_of result.0) (texts_of kept.old) (texts_of kept.new) (A.analysed analyst.old) (A.analysed analyst.new) result.1 }
+    ensures bound { kept.new.bound ≡ kept.old.bound }
+    ensures refused { IfErr result.1 (λ fault. (fault ≡ BuildFault.NoMemory)
+        ⊎ (TellsRefused large graph.now fault × (kept.new ≡ kept.old) × (A.analysed analyst.new ≡ A.analysed analyst.old))) }
+{
+    let Waiting { state, last_run } = waiting;
+    match last_run {
+        None => build_first(alloc, state, graph, large, kept, analyst),
+        Some(last_run) => build_next(alloc, state, last_run, graph, large, kept, analyst),
+    }
+}
+
+// Builds the machine of the first run, whose record begins, if there is memory for that.
+fn build_first<A: Analyst>(
+    alloc: Global,
+    state: Vec<Tern>,
+    graph: &Graph,
+    large: usize,
+    kept: &mut Kept,
+    analyst: &mut A,
+) -> (Held, Result<u64, BuildFault>)
+    requires railed { IsRailed graph.now }
+    requires sound { IsSoundState graph.now state.items }
+    ensures well { IsWell result.0 }
+    ensures builds { BuildsStage large graph.now kept.old.bound (Waits (wait_of (record { state = state; last_run = None }))) (data_of result.0) (texts_of kept.old) (texts_of kept.new) (A.analysed analyst.old) (A.analysed analyst.new) result.1 }
+    ensures bound { kept.new.bound ≡ kept.old.bound }
+    ensures refused { IfErr result.1 (λ fault. (fault ≡ BuildFault.NoMemory)
+        ⊎ (TellsRefused large graph.now fault × (kept.new ≡ kept.old) × (A.analysed analyst.new ≡ A.analysed analyst.old))) }
+{
+    match record_of(alloc, graph, &state) {
+        Ok((own, good)) => build_recorded(alloc, state, own, good, large, kept, analyst),
+        Err(_) => {
+            let waiting = Waiting {
+                state,
+                last_run: None,
+            };
+            build_in_place(alloc, waiting, graph, large, kept, analyst)
+        }
+    }
+}
+
+// Builds the machine of a run that is recorded.
+fn build_recorded<A: Analyst>(
+    alloc: Global,
+    state: Vec<Tern>,
+    graph: Graph,
+    good: GoodPhases,
+    large: usize,
+    kept: &mut Kept,
+    analyst: &mut A,
+) -> (Held, Result<u64, BuildFault>)
+    requires begins { BeginsGood graph state.items good }
+    requires railed { IsRailed graph }
+    requires sound { IsSoundState graph state.items }
+    ensures well { IsWell result.0 }
+    ensures builds { BuildsStage large graph kept.old.bound (Waits (wait_of (record { state = state; last_run = None }))) (data_of result.0) (texts_of kept.old) (texts_of kept.new) (A.analysed analyst.old) (A.analysed analyst.new) result.1 }
+    ensures bound { kept.new.bound ≡ kept.old.bound }
+    ensures refused { IfErr result.1 (λ fault. (fault ≡ BuildFault.NoMemory)
+        ⊎ (TellsRefused large graph fault × (kept.new ≡ kept.old) × (A.analysed analyst.new ≡ A.analysed analyst.old))) }
+{
+    match Machine::build(alloc, &graph, &state, large, Codes::Short, kept, analyst) {
+        Ok((machine, fresh)) => {
+            let built = Built {
+                machine,
+                graph,
+                state,
+                good,
+                large,
+                course: Course::Recorded,
+            };
+            (Held::Built(built), Ok(fresh))
+        }
+        Err(fault) => {
+            let waiting = Waiting {
+                state,
+                last_run: None,
+            };
+            (Held::Waiting(waiting), Err(fault))
+        }
+    }
+}
+
+// A copy of the graph, and the record of a run that begins in this state.
+fn record_of(alloc: Global, graph: &Graph, state: &[Tern]) -> Result<(Graph, GoodPhases), NoMemory>
+    ensures { IfOk result (λ made. BeginsGoodIn graph.now state.now made.0 made.1) }
+{
+    let own = graph.copy(alloc)?;
+    let good = GoodPhases::new(alloc, graph, state)?;
+    Ok((own, good))
+}
+
+// Leads the machine of the last run to the graph, and has it finished; if it can't be led there, a whole one is built.
+fn build_next<A: Analyst>(
+    alloc: Global,
+    state: Vec<Tern>,
+    last_run: LastRun,
+    graph: &Graph,
+    large: usize,
+    kept: &mut Kept,
+    analyst: &mut A,
+) -> (Held, Result<u64, BuildFault>)
+    requires last_run { IsLastRun last_run }
+    requires railed { IsRailed graph.now }
+    requires sound { IsSoundState graph.now state.items }
+    requires front { StandInFront (texts_in last_run.machine) (texts_of kept.old) }
+    ensures well { IsWell result.0 }
+    ensures builds { BuildsStage large graph.now kept.old.bound (Waits (wait_of (record { state = state; last_run = Some last_run }))) (data_of result.0) (texts_of kept.old) (texts_of kept.new) (A.analysed analyst.old) (A.analysed analyst.new) result.1 }
+    ensures bound { kept.new.bound ≡ kept.old.bound }
+    ensures refused { IfErr result.1 (λ fault. (fault ≡ BuildFault.NoMemory)
+        ⊎ (TellsRefused large graph.now fault × (kept.new ≡ kept.old) × (A.analysed analyst.new ≡ A.analysed analyst.old))) }
+{
+    let mut last_run = last_run;
+    if !last_run.lead(graph, &state) {
+        let waiting = Waiting {
+            state,
+            last_run: Some(last_run),
+        };
+        return build_in_place(alloc, waiting, graph, large, kept, analyst);
+    }
+    let LastRun {
+        machine,
+        graph: own,
+        good,
+        ..
+    } = last_run;
+    let Some(machine) = machine else {
+        unreachable!();
+    };
+    if is_sparse(&machine) {
+        return build_fresh(alloc, state, machine, own, good, large, kept, analyst);
+    }
+    finish(alloc, state, machine, own, good, large, kept, analyst)
+}
+
+// Whether most of a machine's parts, and more than 16, were left by groups that are gone.
+fn is_sparse(machine: &Machine) -> bool {
+    let left = machine.parts().saturating_sub(machine.groups());
+    left > machine.groups() && left > MOST_LEFT
+}
+
+// Builds a machine in place of one that covers the graph, but has too many parts that groups left which are gone. Its run goes by itself.
+fn build_fresh<A: Analyst>(
+    alloc: Global,
+    state: Vec<Tern>,
+    machine: Machine,
+    graph: Graph,
+    good: GoodPhases,
+    large: usize,
+    kept: &mut Kept,
+    analyst: &mut A,
+) -> (Held, Result<u64, BuildFault>)
+    requires covered { IsCovered graph machine }
+    requires railed { IsRailed graph }
+    requires sound { IsSoundState graph state.items }
+    requires front { StandInFront machine.last (texts_of kept.old) }
+    ensures well { IsWell result.0 }
+    ensures builds { BuildsStage large graph kept.old.bound (Waits (wait_of (record { state = state; last_run = Some (record { machine = Some machine; covered = true; graph = graph; good = good }) })))
+        (data_of result.0) (texts_of kept.old) (texts_of kept.new) (A.analysed analyst.old) (A.analysed analyst.new) result.1 }
+    ensures bound { kept.new.bound ≡ kept.old.bound }
+    ensures refused { IfErr result.1 (λ fault. (fault ≡ BuildFault.NoMemory)
+        ⊎ (TellsRefused large graph fault × (kept.new ≡ kept.old) × (A.analysed analyst.new ≡ A.analysed analyst.old))) }
+{
+    match Machine::build(alloc, &graph, &state, large, Codes::Short, kept, analyst) {
+        Ok((made, fresh)) => {
+            let built = Built {
+                machine: made,
+                graph,
+                state,
+                good,
+                large,
+                course: Course::Alone,
+            };
+            (Held::Built(built), Ok(fresh))
+        }
+        Err(fault) => {
+            let last_run = LastRun {
+                machine: Some(machine),
+                covered: true,
+                graph,
+                good,
+            };
+            let waiting = Waiting {
+                state,
+                last_run: Some(last_run),
+            };
+            (Held::Waiting(waiting), Err(fault))
+        }
+    }
+}
+
+// Has a machine finished that was led to a graph; its run goes beside the recorded one then.
+fn finish<A: Analyst>(
+    alloc: Global,
+    state: Vec<Tern>,
+    machine: Machine,
+    graph: Graph,
+    good: GoodPhases,
+    large: usize,
+    kept: &mut Kept,
+    analyst: &mut A,
+) -> (Held, Result<u64, BuildFault>)
+    requires led { IsLed good.graph graph state.items machine }
+    requires railed { IsRailed graph }
+    requires sound { IsSoundState graph state.items }
+    requires front { StandInFront machine.last (texts_of kept.old) }
+    ensures well { IsWell result.0 }
+    ensures builds { BuildsStage large graph kept.old.bound (Waits (wait_of (record { state = state; last_run = Some (record { machine = Some machine; covered = true; graph = graph; good = good }) })))
+        (data_of result.0) (texts_of kept.old) (texts_of kept.new) (A.analysed analyst.old) (A.analysed analyst.new) result.1 }
+    ensures bound { kept.new.bound ≡ kept.old.bound }
+    ensures refused { IfErr result.1 (λ fault. (fault ≡ BuildFault.NoMemory)
+        ⊎ (TellsRefused large graph fault × (kept.new ≡ kept.old) × (A.analysed analyst.new ≡ A.analysed analyst.old))) }
+{
+    let mut machine = machine;
+    match finish_beside(
+        alloc,
+        &state,
+        &mut machine,
+        &graph,
+        &good,
+        large,
+        kept,
+        analyst,
+    ) {
+        Ok((course, fresh)) => {
+            let built = Built {
+                machine,
+                graph,
+                state,
+                good,
+                large,
+                course,
+            };
+            (Held::Built(built), Ok(fresh))
+        }
+        Err(fault) => {
+            let last_run = LastRun {
+                machine: Some(machine),
+                covered: true,
+                graph,
+                good,
+            };
+            let waiting = Waiting {
+                state,
+                last_run: Some(last_run),
+            };
+            (Held::Waiting(waiting), Err(fault))
+        }
+    }
+}
+
+// Gives the stale parts of a machine their codes, puts its texts in front of what is kept, and answers how it goes on, and how many
+// texts were new. After a refusal it is as before; if memory lacked, its texts stand in front of what is kept.
+fn finish_beside<A: Analyst>(
+    alloc: Global,
+    state: &[Tern],
+    machine: &mut Machine,
+    graph: &Graph,
+    good: &GoodPhases,
+    large: usize,
+    kept: &mut Kept,
+    analyst: &mut A,
+) -> Result<(Course, u64), BuildFault>
+    requires led { IsLed good.now.graph graph.now state.now machine.old }
+    requires railed { IsRailed graph.now }
+    requires front { StandInFront machine.old.last (texts_of kept.old) }
+    ensures made { IfOk result (λ made. FinishesNext large graph.now kept.old.bound good.now state.now machine.new (texts_of kept.old) (texts_of kept.new) (A.analysed analyst.old) (A.analysed analyst.new) made.0 made.1) }
+    ensures cut_off { result ≡ Err BuildFault.NoMemory → IsCutOff large graph.now (texts_of kept.old) (texts_of kept.new) (A.analysed analyst.old) (A.analysed analyst.new) }
+    ensures bound { kept.new.bound ≡ kept.old.bound }
+    ensures refused { IfErr result (λ fault. (fault ≡ BuildFault.NoMemory)
+        ⊎ (TellsRefused large graph.now fault × (kept.new ≡ kept.old) × (A.analysed analyst.new ≡ A.analysed analyst.old))) }
+    ensures err { OnErr result (machine.new ≡ machine.old) }
+{
+    let touched = touched_in(alloc, machine);
+    machine.has_a_mark_for_each_part();
+    match machine.finish(graph, large, Codes::Short, kept, analyst) {
+        Ok(fresh) => {
+            machine.use_last(kept);
+            machine.has_a_mark_for_each_part();
+            let course = course_of(alloc, machine, graph, good, state, touched);
+            Ok((course, fresh))
+        }
+        Err(fault) => {
+            put_last(machine, &fault, kept);
+            Err(fault)
+        }
+    }
+}
+
+// Puts the texts of a machine's last build in front of what is kept if memory lacked: they stood there, and some that are new stand behind.
+fn put_last(machine: &Machine, fault: &BuildFault, kept: &mut Kept)
+    requires { AreAmong machine.now.last (texts_of kept.old) }
+    ensures puts { PutsLast machine.now.last fault.now kept.old kept.new }
+    ensures bound { kept.new.bound ≡ kept.old.bound }
+{
+    match fault {
+        BuildFault::NoMemory => machine.use_last(kept),
+        BuildFault::GroupNodes { .. } => {}
+        BuildFault::GroupSwitches { .. } => {}
+    }
+}
+
+// Builds a whole machine in place of what waits; after a refusal that waits as before.
+fn build_in_place<A: Analyst>(
+    alloc: Global,
+    waiting: Waiting,
+    graph: &Graph,
+    large: usize,
+    kept: &mut Kept,
+    analyst: &mut A,
+) -> (Held, Result<u64, BuildFault>)
+    requires last_run { IfSome waiting.last_run IsLastRun }
+    requires railed { IsRailed graph.now }
+    requires sound { IsSoundState graph.now waiting.state.items }
+    requires front { StandInFront (texts_held waiting.last_run) (texts_of kept.old) }
+    ensures well { IsWell result.0 }
+    ensures builds { BuildsStage large graph.now kept.old.bound (Waits (wait_of waiting)) (data_of result.0) (texts_of kept.old) (texts_of kept.new) (A.analysed analyst.old) (A.analysed analyst.new) result.1 }
+    ensures bound { kept.new.bound ≡ kept.old.bound }
+    ensures refused { IfErr result.1 (λ fault. (fault ≡ BuildFault.NoMemory)
+        ⊎ (TellsRefused large graph.now fault × (kept.new ≡ kept.old) × (A.analysed analyst.new ≡ A.analysed analyst.old))) }
+{
+    match build_anew(alloc, &waiting.state, graph, large, kept, analyst) {
+        Ok((stage, fresh)) => (Held::Whole(stage), Ok(fresh)),
+        Err(fault) => (Held::Waiting(waiting), Err(fault)),
+    }
+}
+
+// Builds a whole machine, in a copy of the state.
+fn build_anew<A: Analyst>(
+    alloc: Global,
+    state: &[Tern],
+    graph: &Graph,
+    large: usize,
+    kept: &mut Kept,
+    analyst: &mut A,
+) -> Result<(MachineStage, u64), BuildFault>
+    requires railed { IsRailed graph.now }
+    requires sound { IsSoundState graph.now state.now }
+    ensures made { IfOk result (λ made. BuildsAnew large graph.now kept.old.bound state.now (texts_of kept.old) (texts_of kept.new) (A.analysed analyst.old) (A.analysed analyst.new) made.0 made.1) }
+    ensures cut_off { result ≡ Err BuildFault.NoMemory → IsCutOff large graph.now (texts_of kept.old) (texts_of kept.new) (A.analysed analyst.old) (A.analysed analyst.new) }
+    ensures bound { kept.new.bound ≡ kept.old.bound }
+    ensures refused { IfErr result (λ fault. (fault ≡ BuildFault.NoMemory)
+        ⊎ (TellsRefused large graph.now fault × (kept.new ≡ kept.old) × (A.analysed analyst.new ≡ A.analysed analyst.old))) }
+{
+    let copy = Vec::from_slice(alloc, state)?;
+    let mut stage = MachineStage::still(copy);
+    match stage.build(alloc, graph, large, kept, analyst) {
+        Ok(fresh) => Ok((stage, fresh)),
+        Err(fault) => Err(fault),
+    }
+}
