@@ -1,0 +1,25 @@
+pub mod DataLemmas
+pub mod FormLemmas
+pub mod KnownLemmas
+pub mod TurnLemmas
+pub mod SettingLemmas
+pub mod ServeLemmas
+pub mod FaultLemmas
+pub mod QuietLemmas
+pub mod StartLemmas
+pub mod TidyLemmas
+mod TextWalks
+pub mod GivingLemmas
+pub mod SilentLemmas
+pub mod TellLemmas
+pub mod ExpectLemmas
+pub mod DefiningLemmas
+pub mod MoveLemmas
+pub mod MovedLemmas
+pub mod RunLemmas
+pub mod MadeLemmas
+pub mod NotingLemmas
+pub mod SaveLemmas
+pub mod FoundLemmas
+pub mod KeptLemmas
+pub mod BackLemmas
