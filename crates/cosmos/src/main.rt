@@ -12,6 +12,8 @@
 //! the script, whose lines aren't written, and writes why the node may be 1 and why it may be 0 at its
 //! end. `cosmos cover NET SCRIPT` runs the script so too, and writes which of 0 and 1 each node never had.
 //! `cosmos vcd NET SCRIPT` does what `sim` does on a netlist or a deck, and writes a value change dump.
+//! `cosmos symbolic NET SCRIPT` runs a script with bits left open on a netlist or a deck, under all valuations at once, and
+//! `cosmos equiv NET1 NET2 SCRIPT` compares two of them by such a run.
 //! `cosmos faults NET SCRIPT LIST` runs the script under each fault of a list and writes whether it
 //! shows. `cosmos talk NET` reads the netlist or the deck, and then obeys lines as they come from standard input, each
 //! answered before the next one is read. `cosmos help` writes a page on all requests and commands, `cosmos help WORD`
@@ -21,15 +23,17 @@
 //! The exit status is that of `cosmos_app::run`, whose contract says what is written: 0 where all went
 //! well, 1 where an expectation wasn't met or there is a finding, 2 for words that are no command line and for
 //! a NODE that isn't in use, 3 and 4 for a refused line of the netlist or the deck, or of the script or the
-//! list, 5 and 6 where reading or writing failed, and 7 for lack of memory. For 2 standard error has the forms
+//! list, 5 and 6 where reading or writing failed, 7 for lack of memory, and 8 if a run under all valuations wants one vertex more
+//! than there may be. For 2 standard error has the forms
 //! of all requests, or a line if it is NODE that isn't in use; for 3 and 4 a line with the file's name, the
-//! number of the refused line, its code and the cure, as `help_texts` has it; for 5, 6 and 7 a line that says
+//! number of the refused line, its code and the cure, as `help_texts` has it; for 5, 6, 7 and 8 a line that says
 //! more. Under `talk` it has the cure of each refused line too, if standard input is a terminal. No clause speaks of
 //! standard error.
 //!
 //! `answer_over` makes that call, over any opener of files, a printer to any outlet and any stage that moves the state, and
 //! has its clauses for all of them; `main` hands it the files of the system, a printer to standard output and the machine.
-//! `talk_over` does so for a talk, over any port of one, and `dump_over` for a dump, over any outlet.
+//! `talk_over` does so for a talk, over any port of one, and `dump_over`, `symbolic_over` and `equiv_over` for a dump, a run under
+//! all valuations and a comparison, over any outlet.
 //!
 //! ```text
 //! cosmos sim inverter.sim inverter.cmd
@@ -37,20 +41,24 @@
 //! ```
 #![tactic(auto)]
 
-ghost use Rattle.std.specs.Prelude.{◌≡◌, Some, IfSome};
+ghost use Rattle.std.specs.Prelude.{◌≡◌, [], ◌∷◌, Some, IfSome};
 ghost use Rattle.command_line.specs.Requests.{Simulate, names_of, over, request_of};
+ghost use Rattle.run_ends.specs.Stops.{faults_read, faults_written};
 ghost use Rattle.cosmos_app.specs.Answers.{IsAnswered};
+ghost use Rattle.cosmos_app.specs.Comparisons.{IsComparedTo};
 ghost use Rattle.cosmos_app.specs.Counts.{files_count, sink_count};
 ghost use Rattle.cosmos_app.specs.Dumping.{IsDumpTo};
+ghost use Rattle.cosmos_app.specs.Named.{StartsInTurn};
 ghost use Rattle.cosmos_app.specs.Starts.{RequestStarts};
+ghost use Rattle.cosmos_app.specs.Symbolic.{IsSymbolicTo};
 ghost use Rattle.cosmos_app.specs.Talking.{HandsOn, HasReadOnce, IsTalkTo};
 
 mod telling;
 mod told;
 
 use column_stage::PlainStage;
-use command_line::{dump_names, talk_net};
-use cosmos_app::{Status, dump, run, talk};
+use command_line::{dump_names, equiv_names, symbolic_names, talk_net};
+use cosmos_app::{Status, Stop, SymbolEnd, dump, equiv, run, symbolic, talk};
 use group_analysis::Analyst;
 use machine_stage::MachineStage;
 use node_elimination::SymbolicAnalyst;
@@ -62,7 +70,7 @@ use std::{env, io};
 use table_keys::TableKeys;
 use talk_port::{RealTalk, StdWriter, Talk, real_talk};
 use talk_run::Teller;
-use telling::{tell_start, tell_stop};
+use telling::{tell_end, tell_start, tell_stop};
 use told::Told;
 use told_lines::Printer;
 
@@ -107,6 +115,12 @@ fn answer(rt: &HostRuntime, words: &[String], keys: TableKeys) -> Status {
     }
     if let Some((net, script)) = dump_names(words) {
         return answer_dump(rt, words, net, script, keys);
+    }
+    if let Some((net, script)) = symbolic_names(words) {
+        return answer_symbolic(rt, words, net, script, keys);
+    }
+    if let Some((one, other, script)) = equiv_names(words) {
+        return answer_equiv(rt, words, one, other, script, keys);
     }
     let sink = SinkOver::new(Told::over(real_outlet(rt), rt, words));
     let Ok(mut out) = Printer::new(rt.alloc(), sink, false) else {
@@ -153,6 +167,51 @@ fn answer_dump(
     let (of_file, of_output) = (files.reason(), sink.reason());
     tell_stop(rt, words, status, files.name(), of_file, of_output);
     status
+}
+
+// Runs a script under all valuations over the files of the system and the standard output, and says on standard error why it
+// stopped.
+fn answer_symbolic(
+    rt: &HostRuntime,
+    words: &[String],
+    net: &str,
+    script: &str,
+    keys: TableKeys,
+) -> Status {
+    let sink = SinkOver::new(Told::over(real_outlet(rt), rt, words));
+    let mut files = real_files(rt, keys);
+    let mut analyst = SymbolicAnalyst::with_keys(rt.alloc(), keys);
+    let (sink, end) = symbolic_over(rt.alloc(), net, script, &mut files, sink, &mut analyst);
+    sink.outlet().finish();
+    let (of_file, of_output) = (files.reason(), sink.reason());
+    tell_end(rt, words, end, files.name(), of_file, of_output)
+}
+
+// Compares two netlists or decks over the files of the system and the standard output, and says on standard error why it
+// stopped.
+fn answer_equiv(
+    rt: &HostRuntime,
+    words: &[String],
+    one: &str,
+    other: &str,
+    script: &str,
+    keys: TableKeys,
+) -> Status {
+    let sink = SinkOver::new(Told::over(real_outlet(rt), rt, words));
+    let mut files = real_files(rt, keys);
+    let mut analyst = SymbolicAnalyst::with_keys(rt.alloc(), keys);
+    let (sink, end) = equiv_over(
+        rt.alloc(),
+        one,
+        other,
+        script,
+        &mut files,
+        sink,
+        &mut analyst,
+    );
+    sink.outlet().finish();
+    let (of_file, of_output) = (files.reason(), sink.reason());
+    tell_end(rt, words, end, files.name(), of_file, of_output)
 }
 
 // Holds the talk about a netlist or a deck over the files of the system, standard input and standard output, and says on
@@ -222,6 +281,45 @@ fn dump_over<M: PlainStage, O: Open + Drop, T: Outlet + Drop, A: Analyst>(
     ensures write { result.0.faults ≡ sink_count out.faults result.1 }
 {
     dump::<M, _, _, _>(alloc, net, script, files, out, analyst)
+}
+
+// Runs a script under all valuations over the files of an opener and any outlet.
+fn symbolic_over<O: Open + Drop, T: Outlet + Drop, A: Analyst>(
+    alloc: Global,
+    net: &str,
+    script: &str,
+    files: &mut FilesOver<O>,
+    out: SinkOver<T>,
+    analyst: &mut A,
+) -> (SinkOver<T>, Result<SymbolEnd, Stop>)
+    ensures answer { IfSome (O.holds files.old.opener) (λ holds. IsSymbolicTo net.now script.now holds
+        out.contents result.0.contents (A.analysed analyst.old) (A.analysed analyst.new) result.1) }
+    ensures started { StartsInTurn (net.now ∷ []) script.now
+        (O.holds files.old.opener) (Some files.old.started) (Some files.new.started) }
+    ensures read { files.new.faults ≡ faults_read files.old.faults result.1 }
+    ensures write { result.0.faults ≡ faults_written out.faults result.1 }
+{
+    symbolic(alloc, net, script, files, out, analyst)
+}
+
+// Compares two netlists or decks over the files of an opener and any outlet.
+fn equiv_over<O: Open + Drop, T: Outlet + Drop, A: Analyst>(
+    alloc: Global,
+    one: &str,
+    other: &str,
+    script: &str,
+    files: &mut FilesOver<O>,
+    out: SinkOver<T>,
+    analyst: &mut A,
+) -> (SinkOver<T>, Result<SymbolEnd, Stop>)
+    ensures answer { IfSome (O.holds files.old.opener) (λ holds. IsComparedTo one.now other.now script.now holds
+        out.contents result.0.contents (A.analysed analyst.old) (A.analysed analyst.new) result.1) }
+    ensures started { StartsInTurn (one.now ∷ other.now ∷ []) script.now
+        (O.holds files.old.opener) (Some files.old.started) (Some files.new.started) }
+    ensures read { files.new.faults ≡ faults_read files.old.faults result.1 }
+    ensures write { result.0.faults ≡ faults_written out.faults result.1 }
+{
+    equiv(alloc, one, other, script, files, out, analyst)
 }
 
 // Holds the talk about a netlist or a deck over the files of an opener and the port of any talk.

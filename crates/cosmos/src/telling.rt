@@ -1,6 +1,6 @@
 //! What is told on standard error. What it doesn't take is told nowhere.
 
-use cosmos_app::Status;
+use cosmos_app::{Status, Stop, SymbolEnd, symbol_status};
 use help_texts::usage;
 use std::io;
 
@@ -27,9 +27,38 @@ pub(crate) fn tell_stop(
         Status::NoMemory => {
             let _ = eprintln!(rt; "cosmos: out of memory");
         }
-        Status::Done | Status::Mismatch | Status::NetRefused | Status::ScriptRefused => {}
-        Status::Full => {}
+        // Of vertices that ran out `tell_end` tells more.
+        Status::Done
+        | Status::Mismatch
+        | Status::NetRefused
+        | Status::ScriptRefused
+        | Status::Full => {}
     }
+}
+
+/// Tells why a run under all valuations stopped, as `tell_stop` does, or that vertices ran out. Its status is handed back.
+pub(crate) fn tell_end(
+    rt: &HostRuntime,
+    words: &[String],
+    end: Result<SymbolEnd, Stop>,
+    file: Option<&str>,
+    of_file: Option<io::Error>,
+    of_output: Option<io::Error>,
+) -> Status {
+    if let Ok(SymbolEnd::Full { vertices, line }) = end {
+        tell_full(rt, vertices, line);
+    }
+    let status = symbol_status(end);
+    tell_stop(rt, words, status, file, of_file, of_output);
+    status
+}
+
+// Tells that one vertex more was wanted than there may be, at a line if there is one.
+fn tell_full(rt: &HostRuntime, vertices: u32, line: Option<u64>) {
+    let _ = match line {
+        Some(line) => eprintln!(rt; "cosmos: more than {vertices} vertices at line {line}"),
+        None => eprintln!(rt; "cosmos: more than {vertices} vertices"),
+    };
 }
 
 // Tells the forms of all requests; or of `why NET SCRIPT NODE`, which is one, that the node isn't in use.

@@ -75,7 +75,7 @@ impl<W: Flush> Flush for Told<'_, '_, W> {
 }
 
 // The name that words have for a file, if they name it: of a sample they name none. The lines of a talk are those of
-// standard input.
+// standard input. Under `equiv` a note on the second netlist is one on the file that is named behind the first.
 fn named<'w>(rt: &HostRuntime, words: &'w [String], file: NotedFile) -> Option<&'w str> {
     if begins(words, "large") {
         return None;
@@ -83,8 +83,9 @@ fn named<'w>(rt: &HostRuntime, words: &'w [String], file: NotedFile) -> Option<&
     let place = match file {
         NotedFile::Circuit => 1,
         NotedFile::Script if begins(words, "talk") => return terminal_name(rt),
-        NotedFile::Script if begins(words, "batch") => 3,
+        NotedFile::Script if begins(words, "batch") || begins(words, "equiv") => 3,
         NotedFile::Script => 2,
+        NotedFile::List if begins(words, "equiv") => 2,
         NotedFile::List => 3,
     };
     let name = words.get(place)?;

@@ -9,3 +9,6 @@ mod PurposeLemmas
 mod DumpLemmas
 mod AskedLemmas
 mod UniqueAnswers
+mod SymbolLemmas
+mod UniqueComparisons
+mod SymbolicAnswers

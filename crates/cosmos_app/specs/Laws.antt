@@ -1,10 +1,13 @@
--- Laws of the answer of the words, and of a dump: if it is one.
+-- Laws of the answer of the words, of a dump, of a run under all valuations and of a comparison: if it is one.
 use Rattle.std.specs.Prelude.{◌≡◌, ℕ, Bool, true, false, List}
 use Rattle.command_line.specs.Requests.{Question, Compile, Explain, Request, About, OverDeck, request_of}
 use Rattle.run_ends.specs.Answers.{Answer}
 use Rattle.circuit_reports.specs.Alike.{AreAlike}
 use Rattle.cosmos_app.specs.Answers.{IsAnswer}
+use Rattle.cosmos_app.specs.Comparisons.{IsComparedOver}
 use Rattle.cosmos_app.specs.Dumping.{IsDump}
+use Rattle.cosmos_app.specs.Named.{circuit_named}
+use Rattle.cosmos_app.specs.Symbolic.{IsSymbolicOver}
 
 -- the question leaves a choice: any faithful listing answers it, or any of the strongest reasons
 abbrev pub leaves_choice : Question → Bool
@@ -35,3 +38,16 @@ abbrev pub DumpsHaveOneAnswer : Type 0
 DumpsHaveOneAnswer =
     (net script : List ℕ) (holds : List ℕ → List ℕ) (first second : Answer) → IsDump net script holds first → IsDump net script holds second →
     first ≡ second
+
+-- a run under all valuations has one answer, by what the two names hold
+abbrev pub SymbolicRunsHaveOneAnswer : Type 0
+SymbolicRunsHaveOneAnswer =
+    (net script : List ℕ) (holds : List ℕ → List ℕ) (first second : Answer) → IsSymbolicOver (holds script) (circuit_named net (holds net)) first →
+    IsSymbolicOver (holds script) (circuit_named net (holds net)) second → first ≡ second
+
+-- and a comparison, by what the three names hold
+abbrev pub ComparisonsHaveOneAnswer : Type 0
+ComparisonsHaveOneAnswer =
+    (one other script : List ℕ) (holds : List ℕ → List ℕ) (first second : Answer) →
+    IsComparedOver (holds script) (circuit_named one (holds one)) (circuit_named other (holds other)) first →
+    IsComparedOver (holds script) (circuit_named one (holds one)) (circuit_named other (holds other)) second → first ≡ second

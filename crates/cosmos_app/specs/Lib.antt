@@ -7,3 +7,6 @@ pub mod Wholes
 pub mod Laws
 pub mod Talking
 pub mod Dumping
+pub mod Named
+pub mod Symbolic
+pub mod Comparisons

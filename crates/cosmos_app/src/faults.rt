@@ -10,8 +10,8 @@ ghost use Rattle.cosmos_app.specs.Starts.{StartsInOrder};
 ghost use Rattle.circuit_files.specs.Wholes.{ReadsWhole};
 
 use circuit_files::read_file;
-use column_stage::PlainStage;
 use fault_runs::judge_faults;
+use fault_stage::FaultStage;
 use group_analysis::Analyst;
 use line_words::MOST_FILE_BYTES;
 use netlist::Circuit;
@@ -22,7 +22,7 @@ use told_lines::Printer;
 
 /// Reads the script and then the list of faults, and judges the faults in the circuit, each by a run of the
 /// script beside the good one.
-pub(crate) fn judge_list<M: PlainStage, F: Files, S: Sink + Drop, A: Analyst>(
+pub(crate) fn judge_list<F: Files, S: Sink + Drop, A: Analyst>(
     alloc: Global,
     circuit: Circuit,
     script: &str,
@@ -46,5 +46,5 @@ pub(crate) fn judge_list<M: PlainStage, F: Files, S: Sink + Drop, A: Analyst>(
 {
     let text = read_file(alloc, files, script)?;
     let faults = read_file(alloc, files, list)?;
-    judge_faults::<M, _, _>(alloc, circuit, &text, &faults, out, analyst)
+    judge_faults::<FaultStage, _, _>(alloc, circuit, &text, &faults, out, analyst)
 }

@@ -10,7 +10,8 @@
 //! `answers_are_unique` there is one answer, unless the words ask for a listing or for reasons.
 //!
 //! `talk` holds the talk about a netlist or a deck, by its name; its contract says by turns that each line was answered
-//! before the next one was asked for. `dump` writes the value change dump of a script's run, as it goes.
+//! before the next one was asked for. `dump` writes the value change dump of a script's run, as it goes. `symbolic` runs a script under all
+//! valuations of its variables, and `equiv` compares two circuits by such a run.
 //!
 //! ```text
 //! run(alloc, ["sim", "inverter.sim", "inverter.cmd"], files, out)   is Status::Done
@@ -34,17 +35,26 @@
 #![tactic(auto)]
 
 mod columns;
+mod comparing;
 mod dumping;
+mod ends;
 mod faults;
 mod laws;
+mod named;
 mod noting;
+mod other_net;
 mod reports;
+mod symbols;
 mod talking;
 mod top;
 
+pub use comparing::equiv;
 pub use dumping::dump;
+pub use ends::{SymbolEnd, symbol_status};
 pub use laws::answers_are_unique;
-pub use run_ends::Status;
+pub use named::CircuitRefusal;
+pub use run_ends::{Status, Stop};
 pub use script_meaning::scripts_end_at_their_first_refused_line;
+pub use symbols::symbolic;
 pub use talking::talk;
 pub use top::run;

@@ -275,7 +275,7 @@ fn answer_in<M: PlainStage, F: Files, S: Sink + Drop, A: Analyst>(
             run_script::<M, _, _, _>(alloc, circuit, script, purpose, files, out, analyst)
         }
         Question::Judge { script, list } => {
-            judge_list::<M, _, _, _>(alloc, circuit, script, list, files, out, analyst)
+            judge_list::<_, _, _>(alloc, circuit, script, list, files, out, analyst)
         }
         Question::Report(report) => {
             report_on(alloc, files.keys(), &circuit, report, out, analyst)

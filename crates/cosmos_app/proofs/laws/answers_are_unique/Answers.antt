@@ -1,4 +1,5 @@
 use Rattle.cosmos_app.proofs.UniqueAnswers.{answers_unique, answers_alike, dumps_unique}
+use Rattle.cosmos_app.proofs.SymbolicAnswers.{comparisons_unique, symbolic_unique}
 use Rattle.cosmos_app.proofs.laws.answers_are_unique.Goals as goal
 
 pub returns-clause-one : goal.returns-clause-one
@@ -9,3 +10,9 @@ returns-clause-alike c = answers_alike
 
 pub returns-clause-dumps : goal.returns-clause-dumps
 returns-clause-dumps c = dumps_unique
+
+pub returns-clause-symbolic : goal.returns-clause-symbolic
+returns-clause-symbolic c = symbolic_unique
+
+pub returns-clause-equiv : goal.returns-clause-equiv
+returns-clause-equiv c = comparisons_unique
