@@ -239,7 +239,7 @@ impl ColumnMachine {
     }
 
     /// Moves the texts of the last build, if they only count as standing there, to the front of what is kept, for what goes on
-    /// without the machine. It takes no memory.
+    /// without the machine. It keeps no memory, and if there is none it only takes longer.
     pub fn use_last(&self, kept: &mut Kept)
         requires { AreKeptIn (last_in self.now) (texts_of kept.old) }
         ensures texts { texts_of kept.new ≡ used_texts (last_in self.now) (texts_of kept.old) }
