@@ -4,8 +4,8 @@ use Rattle.std.specs.List.{take-map}
 use Rattle.std.proofs.Math.Seq.{take-append_seam, take-suc}
 use Rattle.std.proofs.lemmas.Slice.Eq.{bytes_eq-Decides}
 use Rattle.std.proofs.lemmas.Bool.{cases_lt, cond-false, cond_both, ne_eqb, eqb-false}
-use Rattle.std.proofs.lemmas.List.{append-nil, get_or_append_left, get_or_push}
-use Rattle.std.proofs.lemmas.List.Elements.{All-push, All-weaker}
+use Rattle.std.proofs.lemmas.List.{append-nil, ext_get_or, get_or_append_left, get_or_push}
+use Rattle.std.proofs.lemmas.List.Elements.{All-get_or, All-push, All-weaker}
 use Rattle.std.proofs.lemmas.Option.{slice_get-get_or, slice_get_within, slice_get-map, get_or_from_slice_get}
 use Rattle.std.specs.declared.alloc.Global.{Global}
 use Rattle.switch_paths.specs.declared.TheConstants.{GND, VDD, RAILS}
@@ -293,3 +293,30 @@ held-before (entry ∷ entries) (suc place) name node once stands =
         let same : entry.0 ≡ name = sym (decides.0 refl) in
         let first : 0 ≡ suc place = once 0 (suc place) name entry.1 node (ap (λ n. Some (n, entry.1)) same) stands in
         absurd (omega arith)
+
+-- ---- guesses
+
+-- a name that stands at a place is in use for its node
+pub node_there : (naming : NamesData) (place : ℕ) (name : List ℕ) (node : ℕ) → IsNaming naming → slice_get naming.entries place ≡ Some (name, node) →
+    HasNode naming name node
+node_there naming place name node is stands =
+    let low = slice_get_within naming.entries place (name, node) stands in
+    let there : get_or naming.entries place (name, node) ≡ (name, node) = get_or_from_slice_get naming.entries place (name, node) (name, node) stands in
+    record {
+      found = subst (λ (entry : List ℕ × ℕ). node_of naming.entries entry.0 ≡ Some entry.1) there
+          (All-get_or (λ (entry : List ℕ × ℕ). node_of naming.entries entry.0 ≡ Some entry.1) naming.entries place (name, node) low is.found);
+      within = subst (λ (entry : List ℕ × ℕ). entry.1 < node_count naming) there
+          (All-get_or (λ (entry : List ℕ × ℕ). entry.1 < node_count naming) naming.entries place (name, node) low is.within);
+    }
+
+-- ---- the same names
+
+-- names of which at each place the same stands are the same
+pub same_entries : (xs ys : List (List ℕ × ℕ)) → length xs ≡ length ys → ((place : ℕ) → place < length xs → slice_get xs place ≡ slice_get ys place) → xs ≡ ys
+same_entries xs ys counted same = ext_get_or ([], 0) xs ys counted (λ place low. there place low)
+  where
+    there : (place : ℕ) → place < length xs → get_or xs place ([], 0) ≡ get_or ys place ([], 0)
+    there place low =
+        let both : Some (get_or xs place ([], 0)) ≡ Some (get_or ys place ([], 0)) =
+        sym (slice_get-get_or xs place ([], 0) low) ∙ (same place low ∙ slice_get-get_or ys place ([], 0) (omega (arith, low, counted))) in
+        cc

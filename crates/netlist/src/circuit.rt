@@ -8,7 +8,7 @@ ghost use Rattle.netlist.specs.Faults.{IsAnswered};
 ghost use Rattle.netlist.specs.Edits.{add_fault, alias_fault, answer_of, count_fault, full_fault, limit_fault, node_fault, number_fault, rail_fault, store_fault, strength_fault, switch_numbered, wire_fault, with_alias, with_alias_by, with_input, with_kind, with_node, with_store, with_strength, with_transistor, with_wires, without_switch};
 
 use crate::fault::EditFault;
-use crate::names::Names;
+use crate::names::{Names, are_alike};
 use crate::{MOST_NODES, MOST_SWITCHES, RAILS};
 use std::alloc::Global;
 use std::marker::Model;
@@ -71,6 +71,23 @@ impl Circuit {
     {
         let graph = self.graph.copy(alloc)?;
         let names = self.names.copy(alloc)?;
+        Ok(Circuit {
+            graph,
+            names,
+            profile: self.profile,
+        })
+    }
+
+    /// An equal circuit, as `copy` makes one. If another circuit has the same names for its nodes, as one has that was a copy of this one
+    /// and got no name since, they are taken from it: then no name is copied.
+    pub fn copy_over(&self, alloc: Global, old: Circuit) -> Result<Circuit, NoMemory>
+        ensures { IfOk result (λ circuit. circuit ≡ self.now) }
+    {
+        let Circuit { names, .. } = old;
+        if !are_alike(&names, &self.names) {
+            return self.copy(alloc);
+        }
+        let graph = self.graph.copy(alloc)?;
         Ok(Circuit {
             graph,
             names,

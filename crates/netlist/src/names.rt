@@ -1,5 +1,6 @@
 //! The names of a circuit, beside its graph.
 ghost use Rattle.std.specs.Prelude.{◌≡◌, ◌<◌, [], ◌∷◌, ◌++◌, length, slice_get, IfOk, IfSome, None, OnErr, OnOk, Some};
+ghost use Rattle.std.specs.Bool.{OnTrue};
 ghost use Rattle.netlist.specs.Names.{held, name_at, node_of, rail_of, StandOnce};
 ghost use Rattle.netlist.specs.Naming.{cut, entries_of, node_count, with_first, with_more, with_name, with_name_of, with_names, AreTerminals, Extends, HasNode, IsNaming};
 
@@ -9,6 +10,11 @@ use std::alloc::{AllocError, Global};
 use std::marker::Model;
 use table_keys::TableKeys;
 use ternary::NoMemory;
+
+// How many guesses there are at least, a power of two, and how many bytes of a name each goes by.
+const LEAST_GUESSES: usize = 16;
+
+const MOST_GUESSED: usize = 8;
 
 /// How many names are in use and how many nodes but the rails there are, to cut back to.
 #[derive(Clone, Copy)]
@@ -34,6 +40,8 @@ pub(crate) struct Names {
     table: IndexMap<Vec<u8>, usize, TableKeys>,
     // of node k + 2 the place of its first name in the table
     firsts: Vec<usize>,
+    // where in the table a name may stand, by a few of its bytes; the name that stands there decides
+    guesses: Vec<u32>,
 }
 
 impl Model for Names {
@@ -54,6 +62,7 @@ impl Names {
         Names {
             table: IndexMap::with_hasher(alloc, keys),
             firsts: Vec::new(alloc),
+            guesses: Vec::new(alloc),
         }
     }
 
@@ -63,7 +72,12 @@ impl Names {
     {
         let table = copy_table(alloc, &self.table)?;
         let firsts = Vec::from_slice(alloc, &self.firsts)?;
-        Ok(Names { table, firsts })
+        let guesses = Vec::from_slice(alloc, &self.guesses)?;
+        Ok(Names {
+            table,
+            firsts,
+            guesses,
+        })
     }
 
     /// The keys from which names are hashed.
@@ -97,9 +111,28 @@ impl Names {
         ensures value { result ≡ node_of self.now.entries name.now }
         ensures within { IfSome result (λ node. node < node_count self.now) }
     {
+        if let Some(node) = self.guessed(name) {
+            return Some(node);
+        }
         match rail_named(name) {
             Some(rail) => Some(rail),
             None => self.look_up(name),
+        }
+    }
+
+    // The node of a name, if the name stands where it is guessed.
+    fn guessed(&self, name: &[u8]) -> Option<usize>
+        ensures value { IfSome result (λ node. node_of self.now.entries name.now ≡ Some node) }
+        ensures within { IfSome result (λ node. node < node_count self.now) }
+    {
+        let place = guess_of(&self.guesses, name);
+        let Some((found, node)) = self.table.get_index(place) else {
+            return None;
+        };
+        if is_same(found, name) {
+            Some(*node)
+        } else {
+            None
         }
     }
 
@@ -159,6 +192,7 @@ impl Names {
         self.firsts.reserve(1)?;
         put_new(&mut self.table, word, node)?;
         self.firsts.push_reserved(place);
+        note_guess(&mut self.guesses, &self.table, place);
         Ok(node)
     }
 
@@ -182,8 +216,11 @@ impl Names {
         ensures ok { OnOk result (self.new ≡ with_more self.old name.now node) }
         ensures err { OnErr result (self.new ≡ self.old) }
     {
+        let place = self.table.len();
         let word = name.to_vec(*self.table.allocator())?;
-        put_new(&mut self.table, word, node)
+        let told = put_new(&mut self.table, word, node);
+        note_guess(&mut self.guesses, &self.table, place);
+        told
     }
 
     /// The nodes of the names at a transistor's terminals; those that aren't in use become the
@@ -264,6 +301,54 @@ impl Names {
     }
 }
 
+/// Whether the same names are in use for the same nodes, of which there are as many.
+pub(crate) fn are_alike(one: &Names, other: &Names) -> bool
+    ensures names { OnTrue result (one.now.entries ≡ other.now.entries) }
+    ensures nodes { OnTrue result (node_count one.now ≡ node_count other.now) }
+{
+    if one.nodes() != other.nodes() {
+        return false;
+    }
+    have_same_names(one, other)
+}
+
+// Whether the same names are in use for the same nodes.
+fn have_same_names(one: &Names, other: &Names) -> bool
+    ensures { OnTrue result (one.now.entries ≡ other.now.entries) }
+{
+    if one.len() != other.len() {
+        return false;
+    }
+    for place in 0..one.len() {
+        if !stands_alike(one, other, place) {
+            return false;
+        }
+    }
+    true
+}
+
+// Whether the same name stands at this place for the same node.
+fn stands_alike(one: &Names, other: &Names, place: usize) -> bool
+    requires one { place < length one.now.entries }
+    requires other { place < length other.now.entries }
+    ensures { OnTrue result (slice_get one.now.entries place ≡ slice_get other.now.entries place) }
+{
+    let (name, node) = one.entry_at(place);
+    is_entry(other, place, name, node)
+}
+
+// Whether this name stands at a place, for this node.
+fn is_entry(names: &Names, place: usize, name: &[u8], node: usize) -> bool
+    requires { place < length names.now.entries }
+    ensures { OnTrue result (Some (name.now, node) ≡ slice_get names.now.entries place) }
+{
+    let (found, there) = names.entry_at(place);
+    if there != node {
+        return false;
+    }
+    is_same(found, name)
+}
+
 // A table of the same names with the same nodes, in the same order.
 fn copy_table(
     alloc: Global,
@@ -298,6 +383,70 @@ fn put_new(
         Ok(_) => Ok(()),
         Err(_) => Err(NoMemory),
     }
+}
+
+// Whether two names are one.
+fn is_same(one: &[u8], other: &[u8]) -> bool
+    ensures { OnTrue result (one.now ≡ other.now) }
+{
+    one == other
+}
+
+// Where in a table a name may stand.
+fn guess_of(guesses: &[u32], name: &[u8]) -> usize {
+    if guesses.is_empty() {
+        return 0;
+    }
+    guesses[slot_of(guesses.len(), name)] as usize
+}
+
+// Notes where the name at this place stands; for lack of memory for that it may not be.
+fn note_guess(guesses: &mut Vec<u32>, table: &IndexMap<Vec<u8>, usize, TableKeys>, place: usize) {
+    if guesses.len() / 2 < table.len() {
+        renew_guesses(guesses, table);
+    }
+    put_guess(guesses, table, place);
+}
+
+// Takes twice as many guesses, if there is memory for them.
+fn renew_guesses(guesses: &mut Vec<u32>, table: &IndexMap<Vec<u8>, usize, TableKeys>) {
+    let count = guesses.len().saturating_mul(2).max(LEAST_GUESSES);
+    let alloc = *table.allocator();
+    let Ok(mut fresh) = vec![in alloc; 0u32; count] else {
+        return;
+    };
+    for place in 0..table.len() {
+        put_guess(&mut fresh, table, place);
+    }
+    *guesses = fresh;
+}
+
+// Puts the place of a name among the guesses.
+fn put_guess(guesses: &mut [u32], table: &IndexMap<Vec<u8>, usize, TableKeys>, place: usize) {
+    if guesses.is_empty() {
+        return;
+    }
+    let Ok(short) = u32::try_from(place) else {
+        return;
+    };
+    if let Some((name, _)) = table.get_index(place) {
+        let slot = slot_of(guesses.len(), name);
+        guesses[slot] = short;
+    }
+}
+
+// Which of so many guesses, a power of two, is that of a name: by its last bytes, which differ most among names.
+#[tactic(auto, using(std::proofs::lemmas::Nat::and_le_r))]
+fn slot_of(count: usize, name: &[u8]) -> usize
+    requires { 0 < count }
+    ensures { result < count }
+{
+    let mut sum: u32 = 0;
+    let first = name.len().saturating_sub(MOST_GUESSED);
+    for byte in &name[first..] {
+        sum = sum.wrapping_mul(31).wrapping_add(*byte as u32);
+    }
+    sum as usize & (count - 1)
 }
 
 // The rail that a name spells, in any ASCII case.

@@ -6,7 +6,7 @@ use Rattle.netlist.proofs.NamingLemmas.{IsNaming-added_first}
 use Rattle.netlist.proofs.names.Names.add_first.Goals as goal
 
 -- the copy of the name isn't in use either
-unused : (c : goal.After-push_reserved) → node_of (entries_of c.self.inside.table.entries) c.in_ok-word.word.items ≡ None
+unused : (c : goal.After-note_guess) → node_of (entries_of c.self.inside.table.entries) c.in_ok-word.word.items ≡ None
 unused c =
     ap (node_of (entries_of c.self.inside.table.entries)) (c.in_ok-word.ensures.items_if_clones_equal (λ _ _ same. same))
     ∙ ap (λ (naming : NamesData). node_of naming.entries c.args.name.now) c.self.view_is
