@@ -341,6 +341,10 @@ impl Observer for Recorder {
 impl Onlooker for Recorder {
     ghost looks = { true };
 
+    ghost blind = { λ is _ _. absurd (Prim.cc) };
+
+    ghost sure = { λ is _ _. absurd (Prim.cc) };
+
     #[inline]
     fn is_looking(&self) -> bool {
         true

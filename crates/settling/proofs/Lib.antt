@@ -10,3 +10,4 @@ pub mod WholeSettling
 pub mod RecallLemmas
 pub mod RecurringLemmas
 pub mod SeenRounds
+mod MovesLemmas

@@ -37,9 +37,13 @@ pub trait Observer {
     ghost part: { Self → List Tern → Self.Fault → Self → Type 0 };
 
     /// Whether it is enough to show it a round of states once: if they come again, in the same order, they tell it nothing
-    /// new.
+    /// new. It isn't if an observer doesn't say so.
+    #[inline]
     fn is_once_enough(&self) -> bool
-        ensures { OnTrue result (OnceIsEnough see) };
+        ensures { OnTrue result (OnceIsEnough see) }
+    {
+        false
+    }
 
     /// Sees the state that a move left, which differs at listed nodes alone from one that is known.
     fn see<M: Moved>(&mut self, moved: &M) -> Result<(), Self::Fault>

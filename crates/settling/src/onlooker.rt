@@ -1,5 +1,5 @@
 //! Who looks on at a whole run.
-ghost use Rattle.std.specs.Prelude.{◌≡◌, Bool, true, false, List, Ok, OnOk};
+ghost use Rattle.std.specs.Prelude.{◌≡◌, refl, Bool, true, false, List, Ok, OnOk};
 ghost use Rattle.ternary.specs.declared.tern.Tern.{Tern};
 ghost use Rattle.settling.specs.Moved.{IsGrown, ListsChanges};
 
@@ -11,7 +11,7 @@ use ternary::{NoMemory, Tern};
 /// is over, and between them states that moved or grew.
 ///
 /// Contracts see one more meaning: whether it looks at all. Who doesn't has no use for a list of the nodes that a move
-/// changed.
+/// changed, or for being shown anything: nothing becomes of what it has seen, and any state may be one that it knows.
 pub trait Onlooker: Observer<Fault = Never> {
     ghost looks: { Bool };
 
@@ -37,10 +37,18 @@ pub trait Onlooker: Observer<Fault = Never> {
         requires { (old : List Tern) × Self.knows self.old old × IsGrown old state.now }
         ensures seen { OnOk result (Self.seen self.new ≡ Self.see (Self.seen self.old) state.now) }
         ensures knows { OnOk result (Self.knows self.new state.now) };
+
+    ghost blind: { looks ≡ false → (seen : Self.Seen) (state : List Tern) → Self.see seen state ≡ seen };
+
+    ghost sure: { looks ≡ false → (onlooker : Self) (state : List Tern) → Self.knows onlooker state };
 }
 
 impl Onlooker for Blind {
     ghost looks = { false };
+
+    ghost blind = { λ _ seen _. refl };
+
+    ghost sure = { λ _ _ _. tt };
 
     #[inline]
     fn is_looking(&self) -> bool {

@@ -20,7 +20,7 @@ const NODES_A_STEP: u64 = 256;
 /// What is left of the phase's limit is then a number of whole rounds, which needn't be taken, and less than a round.
 ///
 /// The state is remembered that there is after 16 steps, then the one after 32, 64 and so on, as long as none came back.
-/// So rounds of any length are found. Where copying a state would cost more than the steps did so far it isn't
+/// So rounds of any length are found. If copying a state would cost more than the steps did so far it isn't
 /// remembered, nor is it if there is no memory for it.
 #[derive(Drop)]
 pub struct Recall {
@@ -111,8 +111,8 @@ impl Recall {
         self.due = u64::MAX;
     }
 
-    // A node at which this state isn't the one that is remembered, if there is one. Where the last one differed is looked
-    // at first: mostly it differs there still.
+    // A node at which this state isn't the one that is remembered, if there is one. The place at which the
+    // last one differed is looked at first: mostly it differs there still.
     #[tactic(auto, using(crate::proofs::RecallLemmas::lengths_differ, crate::proofs::RecallLemmas::states_differ, crate::proofs::RecallLemmas::none_differs))]
     fn difference(&self, state: &[Tern]) -> Option<usize>
         ensures none { IfNone result (state.now ≡ self.now.state) }

@@ -1,5 +1,5 @@
 -- What nodes have is noted: of all of them; and of those that a step changed, while the others had it before.
-use Rattle.std.proofs.Common.{◌≡◌, ◌≢◌, ℕ, zero, suc, ◌+◌, ◌-◌, ◌<◌, ◌≤◌, inl, inr, ◌⊎◌, List, [], ◌∷◌, ◌++◌, length, refl, sym, ◌∙◌, ap, arith, subst}
+use Rattle.std.proofs.Common.{◌≡◌, ℕ, zero, suc, ◌+◌, ◌-◌, ◌<◌, ◌≤◌, inl, inr, ◌⊎◌, List, [], ◌∷◌, ◌++◌, length, refl, sym, ◌∙◌, ap, arith, subst}
 use Rattle.std.specs.Prelude.{slice_index_or, slice_set, replicate, take}
 use Rattle.std.proofs.lemmas.Bool.{cases_eq}
 use Rattle.std.proofs.lemmas.Bool.{cases_lt}
@@ -7,22 +7,12 @@ use Rattle.std.proofs.lemmas.List.{ext_get_or, take_all, get_or-append_right, ge
 use Rattle.std.proofs.Math.ListN.{get_or-append}
 use Rattle.ternary.specs.declared.tern.Tern.{Tern}
 use Rattle.ternary.specs.declared.tern.Tern.TheVariants.{Zero, One, Unk}
+use Rattle.ternary.proofs.TernLemmas.{same_or_other}
 use Rattle.switch_paths.specs.Switching.{state_at}
 use Rattle.settling.specs.Moved.{IsGrown, ListsChanges}
 use Rattle.settling.proofs.NumbersLemmas.{shift}
 use Rattle.state_cover.specs.declared.had.Had.{Had}
 use Rattle.state_cover.specs.Cover.{none_had, had_more, had_after, had_at, Knows, Notes}
-
-same_tern : (a b : Tern) → (a ≡ b) ⊎ (a ≢ b)
-same_tern Zero Zero = inl refl
-same_tern Zero One = inr (λ same. absurd cc)
-same_tern Zero Unk = inr (λ same. absurd cc)
-same_tern One Zero = inr (λ same. absurd cc)
-same_tern One One = inl refl
-same_tern One Unk = inr (λ same. absurd cc)
-same_tern Unk Zero = inr (λ same. absurd cc)
-same_tern Unk One = inr (λ same. absurd cc)
-same_tern Unk Unk = inl refl
 
 pub had_more-twice : (had : Had) (state : Tern) → had_more (had_more had state) state ≡ had_more had state
 had_more-twice had Zero = refl
@@ -219,7 +209,7 @@ module _ (nodes : List ℕ) (old states : List Tern) (before now : List Had) (li
       had_at now node ≡ had_more (had_at before node) (state_at states node)
   all_noted node inside = elim (so_far.either node) [
     | inr more ↦ more
-    | inl kept ↦ elim (same_tern (state_at states node) (state_at old node)) [
+    | inl kept ↦ elim (same_or_other (state_at states node) (state_at old node)) [
       | inl same ↦ kept ∙ (sym (knows.noted node (omega (arith, inside, knows.count))) ∙ ap (had_more (had_at before node)) (sym same))
       | inr differs ↦
           let (k, within, here) = lists.each node (omega (arith, inside, knows.count)) differs in

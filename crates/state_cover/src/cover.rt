@@ -134,6 +134,10 @@ impl Observer for Cover {
 impl Onlooker for Cover {
     ghost looks = { true };
 
+    ghost blind = { λ is _ _. absurd (Prim.cc) };
+
+    ghost sure = { λ is _ _. absurd (Prim.cc) };
+
     #[inline]
     fn is_looking(&self) -> bool {
         true

@@ -403,6 +403,10 @@ impl<S: Sink + Drop> Observer for Dump<S> {
 impl<S: Sink + Drop> Onlooker for Dump<S> {
     ghost looks = { true };
 
+    ghost blind = { λ is _ _. absurd (Prim.cc) };
+
+    ghost sure = { λ is _ _. absurd (Prim.cc) };
+
     #[inline]
     fn is_looking(&self) -> bool {
         true

@@ -24,8 +24,6 @@ mod laws;
 mod marking;
 mod pen;
 mod putting;
-#[cfg(test)]
-mod tests;
 
 pub use dump::Dump;
 pub use laws::{codes_are_unique, codes_are_visible, comments_end, dumps_are_told};

@@ -1,9 +1,9 @@
 -- One state more, and the step that changes nothing.
-use Rattle.std.proofs.Common.{true, [], ◌∙◌, refl, arith, ap, rules}
+use Rattle.std.proofs.Common.{true, [], ◌∙◌, refl, arith, rules}
 use Rattle.std.proofs.lemmas.Bool.{OnTrue_at, OnFalse_at}
-use Rattle.ternary.specs.Counts.{raised}
-use Rattle.ternary.proofs.CountsLemmas.{raised-more, raised-none}
+use Rattle.ternary.proofs.CountsLemmas.{raised-none}
 use Rattle.settling.proofs.KnownStates.{known-all}
+use Rattle.settling.proofs.MovesLemmas.{moved_once}
 use Rattle.settling.proofs.SettlingLemmas.{all-falls}
 use Rattle.settling.specs.Passing.{JoiningThrough}
 use Rattle.settling.proofs.SeenSoFar.{one_more, ends_here, look_fails}
@@ -46,8 +46,7 @@ loop-count-preserved g c =
         all-falls (g.M.Moved.state loop.m) (g.M.Moved.state c.join_step.new.self) c.join_step.ensures.nodes
             c.join_step.ensures.unknown changed,
       );
-      moves = OnTrue_at c.loop-count-test.true c.join_step.ensures.moved ∙
-          (ap (λ moves. raised moves 1) loop.invariant.moves ∙ raised-more (g.M.SeenStepper.moves c.args.m.now) loop.count 1);
+      moves = moved_once _ _ _ loop.count loop.invariant.moves (OnTrue_at c.loop-count-test.true c.join_step.ensures.moved);
       placed = c.join_step.ensures.placed ∙ loop.invariant.placed;
       fixed = c.join_step.ensures.fixed ∙ loop.invariant.fixed;
     }

@@ -2,9 +2,9 @@
 use Rattle.std.proofs.Common.{◌≡◌, ℕ, ◌+◌, ◌-◌, List, [], length, ◌∙◌, refl, sym, subst, arith, ap, rules}
 use Rattle.std.proofs.lemmas.Bool.{OnTrue_at, OnFalse_at}
 use Rattle.ternary.specs.declared.tern.Tern.{Tern}
-use Rattle.ternary.specs.Counts.{raised}
-use Rattle.ternary.proofs.CountsLemmas.{raised-more, raised-none}
+use Rattle.ternary.proofs.CountsLemmas.{raised-none}
 use Rattle.settling.specs.Passing.{SteppingThrough}
+use Rattle.settling.proofs.MovesLemmas.{moved_ahead}
 use Rattle.settling.proofs.SeenRounds.{KeptSeen, seen-none, seen-more, seen-on, passed-on}
 use Rattle.settling.proofs.SeenSoFar.{SteppedSoFar, one_more, ends_here, look_fails, goes_on, rests, at_limit}
 use Rattle.settling.proofs.observing.step_while_seen.Goals as goal
@@ -87,10 +87,7 @@ loop-count-preserved g c =
       fits = passed.fits graph (c.step.ensures.fits loop.invariant.fits);
       within = omega (arith, passed.left);
       nodes = ap length passed.state ∙ (c.step.ensures.nodes ∙ loop.invariant.nodes);
-      moves = passed.moves ∙ (ap (λ count. raised count ahead)
-          (OnTrue_at c.if-not-step.false c.step.ensures.moved
-          ∙ (ap (λ count. raised count 1) loop.invariant.moves ∙ raised-more moves loop.count 1))
-          ∙ raised-more moves (loop.count + 1) ahead);
+      moves = moved_ahead moves _ _ _ loop.count ahead loop.invariant.moves (OnTrue_at c.if-not-step.false c.step.ensures.moved) passed.moves;
       placed = passed.placed ∙ (c.step.ensures.placed ∙ loop.invariant.placed);
       fixed = passed.fixed ∙ (c.step.ensures.fixed ∙ loop.invariant.fixed);
     }

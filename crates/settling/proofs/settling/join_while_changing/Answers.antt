@@ -1,10 +1,10 @@
 -- No joining step yet, one more, and the one that changes nothing.
-use Rattle.std.proofs.Common.{◌+◌, true, inl, ◌∙◌, refl, arith, ap, zero-add}
+use Rattle.std.proofs.Common.{◌+◌, true, inl, ◌∙◌, refl, arith, zero-add}
 use Rattle.std.proofs.lemmas.Bool.{OnTrue_at, OnFalse_at}
 use Rattle.settling.specs.Settling.{Joining}
-use Rattle.ternary.specs.Counts.{raised}
-use Rattle.ternary.proofs.CountsLemmas.{raised-more, raised-none}
+use Rattle.ternary.proofs.CountsLemmas.{raised-none}
 use Rattle.settling.proofs.KnownStates.{known-all}
+use Rattle.settling.proofs.MovesLemmas.{moved_once}
 use Rattle.settling.proofs.SettlingLemmas.{counted, counted_none, Joining-more, Joining-rests, all-falls, storage-more, fades-more, rested_at}
 use Rattle.settling.proofs.settling.join_while_changing.Goals as goal
 
@@ -53,17 +53,20 @@ loop-count-preserved g c =
         all-falls old new c.join_step.ensures.nodes
             c.join_step.ensures.unknown changed,
       );
-      moves = OnTrue_at c.loop-count-test.true c.join_step.ensures.moved ∙
-          (ap (λ moves. raised moves 1) loop.invariant.moves ∙ raised-more (g.M.Stepper.moves c.args.m.now) loop.count 1);
+      moves = moved_once _ _ _ loop.count loop.invariant.moves (OnTrue_at c.loop-count-test.true c.join_step.ensures.moved);
       placed = c.join_step.ensures.placed ∙ loop.invariant.placed;
       fixed = c.join_step.ensures.fixed ∙ loop.invariant.fixed;
     }
 
-pub loop-count-smaller : goal.loop-count-smaller
-loop-count-smaller g c =
-    all-falls (g.M.Stepper.state c.loop-count.m) (g.M.Stepper.state c.join_step.new.self) c.join_step.ensures.nodes
-    c.join_step.ensures.unknown
-    (OnTrue_at c.loop-count-test.true c.join_step.ensures.changed)
+pub returns-clause-joining : goal.returns-clause-joining
+returns-clause-joining g c = λ fits.
+    let loop = c.loop-count in
+    let same = OnFalse_at c.loop-count-test.false c.join_step.ensures.same in
+    counted_none loop.count
+    (λ count. Joining c.args.graph.now (g.M.Stepper.state c.args.m.now) count (g.M.Stepper.state c.join_step.new.self))
+    (loop.invariant.joining fits 0 (g.M.Stepper.state c.join_step.new.self)
+    (Joining-rests c.args.graph.now (g.M.Stepper.state loop.m) (g.M.Stepper.state c.join_step.new.self)
+    (c.join_step.ensures.step (loop.invariant.fits fits)) same))
 
 pub returns-clause-fading : goal.returns-clause-fading
 returns-clause-fading g c =
@@ -78,12 +81,8 @@ returns-clause-fading g c =
           (rw (← same) at loop.invariant.fewer);
     }
 
-pub returns-clause-joining : goal.returns-clause-joining
-returns-clause-joining g c = λ fits.
-    let loop = c.loop-count in
-    let same = OnFalse_at c.loop-count-test.false c.join_step.ensures.same in
-    counted_none loop.count
-    (λ count. Joining c.args.graph.now (g.M.Stepper.state c.args.m.now) count (g.M.Stepper.state c.join_step.new.self))
-    (loop.invariant.joining fits 0 (g.M.Stepper.state c.join_step.new.self)
-    (Joining-rests c.args.graph.now (g.M.Stepper.state loop.m) (g.M.Stepper.state c.join_step.new.self)
-    (c.join_step.ensures.step (loop.invariant.fits fits)) same))
+pub loop-count-smaller : goal.loop-count-smaller
+loop-count-smaller g c =
+    all-falls (g.M.Stepper.state c.loop-count.m) (g.M.Stepper.state c.join_step.new.self) c.join_step.ensures.nodes
+    c.join_step.ensures.unknown
+    (OnTrue_at c.loop-count-test.true c.join_step.ensures.changed)

@@ -2,8 +2,8 @@
 use Rattle.std.proofs.Common.{◌+◌, length, refl, sym, ◌∙◌, arith, ap, subst}
 use Rattle.std.proofs.lemmas.Bool.{OnTrue_at, OnFalse_at}
 use Rattle.settling.specs.Recurring.{Changing}
-use Rattle.ternary.specs.Counts.{raised}
-use Rattle.ternary.proofs.CountsLemmas.{raised-more, raised-none}
+use Rattle.ternary.proofs.CountsLemmas.{raised-none}
+use Rattle.settling.proofs.MovesLemmas.{moved_ahead}
 use Rattle.settling.proofs.RecurringLemmas.{KeptChanging, kept-none, kept-more, kept-on, step-on, ends-at-rest, ends-at-limit}
 use Rattle.settling.proofs.settling.step_while_changing.Goals as goal
 
@@ -19,6 +19,9 @@ loop-count-init g c = record {
   placed = refl;
   fixed = refl;
 }
+
+pub loop-count-smaller : goal.loop-count-smaller
+loop-count-smaller g c = omega (arith, c.loop-count-test.true)
 
 pub loop-count-preserved : goal.loop-count-preserved
 loop-count-preserved g c =
@@ -44,16 +47,10 @@ loop-count-preserved g c =
       within = omega (arith, passed.left);
       unmoved = λ none. absurd (omega (arith, none));
       nodes = ap length passed.state ∙ (c.step.ensures.nodes ∙ loop.invariant.nodes);
-      moves = passed.moves ∙ (ap (λ count. raised count ahead)
-          (OnTrue_at c.if-not-step.false c.step.ensures.moved
-          ∙ (ap (λ count. raised count 1) loop.invariant.moves ∙ raised-more moves loop.count 1))
-          ∙ raised-more moves (loop.count + 1) ahead);
+      moves = moved_ahead moves _ _ _ loop.count ahead loop.invariant.moves (OnTrue_at c.if-not-step.false c.step.ensures.moved) passed.moves;
       placed = passed.placed ∙ (c.step.ensures.placed ∙ loop.invariant.placed);
       fixed = passed.fixed ∙ (c.step.ensures.fixed ∙ loop.invariant.fixed);
     }
-
-pub loop-count-smaller : goal.loop-count-smaller
-loop-count-smaller g c = omega (arith, c.loop-count-test.true)
 
 pub returns-then-not-step-clause-stepping : goal.returns-then-not-step-clause-stepping
 returns-then-not-step-clause-stepping g c = λ fits.

@@ -1,9 +1,9 @@
-use crate::Dump;
 use ports::{MemSink, PortFault};
 use printed_lines::{FaultCode, FaultPlace, LineBuf};
 use std::test::Fail;
 use ternary::Tern;
 use told_lines::{Line, Lines};
+use wave_dump::Dump;
 
 // One line is told, and the run is refused before its first step; one call of the sink fails.
 #[test]
