@@ -1,5 +1,5 @@
 -- The nodes that an assignment gives letters are nodes of the circuit, and a state of a column goes to its name's node.
-use Rattle.std.proofs.Common.{◌≡◌, ℕ, ◌<◌, List, [], ◌∷◌, length, All, Option, Some, None, IfSome, option_map, IfOk, refl, ap, map}
+use Rattle.std.proofs.Common.{◌≡◌, ℕ, ◌<◌, ◌⊎◌, List, [], ◌∷◌, ◌++◌, length, All, Option, Some, None, IfSome, option_map, IfOk, refl, sym, ap, map, inl, inr, ◌∙◌, append-nil}
 use Rattle.std.specs.Prelude.{replicate, zip}
 use Rattle.std.proofs.lemmas.List.Elements.{All-nil, All-cons, All-head, All-tail}
 use Rattle.ternary.specs.declared.tern.Tern.{Tern}
@@ -14,6 +14,20 @@ use Rattle.node_words.specs.Words.{list_of, named}
 use Rattle.node_words.specs.Vectors.{AreWithin}
 use Rattle.node_words.proofs.WithinLemmas.{list_of-within, named-within}
 use Rattle.node_values.specs.Givings.{letters_given, states_given, unless_node, vector_named, with_letters, with_state, with_value_at}
+
+-- no letters give no pairs
+unpaired : {X : Type 0} (nodes : List ℕ) (letters : List X) → letters ≡ [] → zip nodes letters ≡ []
+unpaired {X} [] letters none = refl
+unpaired {X} (node ∷ nodes) [] none = refl
+unpaired {X} (node ∷ nodes) (letter ∷ letters) none = absurd (cc)
+
+-- if no pairs are left, those that are there are all
+pub none_left : {X : Type 0} (pairs all : List (ℕ × X)) (nodes : List ℕ) (letters : List X) → pairs ++ zip nodes letters ≡ all →
+    (nodes ≡ []) ⊎ (letters ≡ []) → pairs ≡ all
+none_left {X} pairs all nodes letters are (inl none) =
+    sym (append-nil pairs) ∙ ap (λ (left : List ℕ). pairs ++ zip left letters) (sym none) ∙ are
+none_left {X} pairs all nodes letters are (inr none) =
+    sym (append-nil pairs) ∙ ap (λ (left : List (ℕ × X)). pairs ++ left) (sym (unpaired nodes letters none)) ∙ are
 
 -- the nodes of pairs are among so many
 abbrev pub AreInside : {X : Type 0} → ℕ → List (ℕ × X) → Type 0

@@ -1,5 +1,5 @@
 //! The nodes of an assignment, each with its letter.
-ghost use Rattle.std.specs.Prelude.{◌≡◌, ◌⊎◌, Ok, Err, IfErr, IfOk, length, replicate, Some, zip};
+ghost use Rattle.std.specs.Prelude.{◌≡◌, ◌⊎◌, [], ◌∷◌, Ok, Err, IfErr, IfOk, IfSome, length, replicate, Some, zip};
 ghost use Rattle.node_values.specs.Givings as spec;
 
 use crate::fault::GivenFault;
@@ -56,6 +56,24 @@ pub fn letters_given(
             Some(node) => with_state(alloc, &[node], *state),
             None => Err(GivenFault::UnknownNode),
         },
+    }
+}
+
+/// The node of an assignment that gives a state to one node, by its name, and the state. It takes no memory; None says nothing.
+pub fn one_given(
+    circuit: &Circuit,
+    vectors: &Vectors,
+    name: &[u8],
+    value: &Value,
+) -> Option<(usize, Tern)>
+    ensures { IfSome result (λ given. spec.letters_given circuit.now vectors.now (name.now, value.now) ≡ Ok ((given.0, Some given.1) ∷ [])) }
+{
+    match value {
+        Value::Letter(state) => match vectors.named(circuit, name) {
+            Named::Node(node) => Some((node, *state)),
+            Named::Vector(_) | Named::Nothing => None,
+        },
+        Value::Wide(_) | Value::Alone(_) => None,
     }
 }
 

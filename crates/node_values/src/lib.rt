@@ -2,7 +2,8 @@
 //!
 //! The main call is [`letters_given`]. The layers above use its contract: the nodes with their letters are
 //! exactly `letters_given` of `specs/Givings.antt`, and there is none exactly for the fault that this has.
-//! [`is_misplaced`] tells the values that may stand at vectors alone.
+//! [`is_misplaced`] tells the values that may stand at vectors alone, and [`one_given`] gives the one node of most
+//! assignments, without memory.
 //!
 //! ```text
 //! a is node 2, and the vector v has the nodes 2 and 3
@@ -20,4 +21,4 @@ mod fault;
 mod givings;
 
 pub use fault::GivenFault;
-pub use givings::{is_misplaced, letters_given};
+pub use givings::{is_misplaced, letters_given, one_given};

@@ -12,7 +12,7 @@ use ternary::{NoMemory, Tern};
 pub type Letter = Option<Tern>;
 
 /// A value that is given to a vector: letters, or a number.
-#[derive(Debug, Drop)]
+#[derive(Drop)]
 pub struct VectorValue {
     // the letters, or the bits of the number, the highest first
     letters: Vec<Letter>,

@@ -1,22 +1,7 @@
-use Rattle.std.proofs.Common.{◌≡◌, ◌++◌, ◌⊎◌, ℕ, List, [], ◌∷◌, refl, sym, ap, inl, inr, ◌∙◌, append-nil}
-use Rattle.std.specs.Prelude.{zip}
+-- No pair is left.
 use Rattle.std.proofs.lemmas.Slice.Zip.{either_empty_from_Zip}
-use Rattle.vector_values.specs.Values.{Letter}
+use Rattle.node_values.proofs.GivingLemmas.{none_left}
 use Rattle.node_values.proofs.givings.paired.Goals as goal
-
--- no letters give no pairs
-unpaired : (nodes : List ℕ) (letters : List Letter) → letters ≡ [] → zip nodes letters ≡ []
-unpaired [] letters none = refl
-unpaired (node ∷ nodes) [] none = refl
-unpaired (node ∷ nodes) (letter ∷ letters) none = absurd (cc)
-
--- if no pairs are left, those that are there are all
-none_left : (pairs all : List (ℕ × Letter)) (nodes : List ℕ) (letters : List Letter) → pairs ++ zip nodes letters ≡ all →
-    (nodes ≡ []) ⊎ (letters ≡ []) → pairs ≡ all
-none_left pairs all nodes letters are (inl none) =
-    sym (append-nil pairs) ∙ ap (λ (left : List ℕ). pairs ++ zip left letters) (sym none) ∙ are
-none_left pairs all nodes letters are (inr none) =
-    sym (append-nil pairs) ∙ ap (λ (left : List (ℕ × Letter)). pairs ++ left) (sym (unpaired nodes letters none)) ∙ are
 
 pub returns : goal.returns
 returns c =
