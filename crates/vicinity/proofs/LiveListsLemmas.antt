@@ -1,6 +1,6 @@
 -- The lists of a graph turn with a gate: first at both ends of one switch, then at all places that the gate has; so they are those of the state
 -- in which the gate changed.
-use Rattle.std.proofs.Common.{◌≡◌, ◌≢◌, ℕ, ◌+◌, ◌<◌, inl, inr, ◌⊎◌, get_or, Some, Bool, true, false, List, [], length, take, ap, refl, sym, subst, ◌∙◌, arith}
+use Rattle.std.proofs.Common.{◌≡◌, ◌≢◌, ℕ, ◌+◌, ◌<◌, inl, inr, ◌⊎◌, get_or, Some, Bool, true, false, List, [], ◌∷◌, length, take, ap, refl, sym, subst, ◌∙◌, arith}
 use Rattle.std.specs.Prelude.{Contains, slice_set}
 use Rattle.std.proofs.lemmas.Bool.{cases_eq, cases_Bool}
 use Rattle.std.proofs.lemmas.List.{get_or-set_same, get_or-set_other, take_more}
@@ -248,3 +248,13 @@ module _ (g : GraphData) (gate : ℕ) (now : Tern) (state : List Tern) (old : Li
     );
     gated = lists.gated;
   }
+
+-- a state of a node that is no gate turns nothing
+pub AreListsOf-ungated : (g : GraphData) (gate : ℕ) (now : Tern) (state : List Tern) (lists : LiveListsData) → gate < length state → AreListsOf g state lists →
+    length (places_of lists.gates gate) ≡ 0 → AreListsOf g (slice_set state gate now) lists
+AreListsOf-ungated g gate now state lists inside are none =
+    AreListsOf-turned g gate now state lists lists.ends inside are (idle (places_of lists.gates gate) none)
+  where
+    idle : (places : List ℕ) → length places ≡ 0 → TurnsGate g gate (state_at state gate) now (Contains places) lists.ends lists.ends
+    idle [] none = TurnsGate-start g gate (state_at state gate) now lists.ends
+    idle (place ∷ places) none = absurd (omega (arith, none))

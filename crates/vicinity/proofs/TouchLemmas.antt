@@ -132,6 +132,12 @@ Touches-one g old node was value places before after gated inside is wakes = rec
 abbrev pub NoneTwice : List Tern → List Tern → List Tern → Type 0
 NoneTwice old mid new = (node : ℕ) → (state_at mid node ≡ state_at old node) ⊎ (state_at new node ≡ state_at mid node)
 
+-- a switch that changes between two states changes between two others, if it has other states in these
+changes_between : (g : GraphData) (one two old new : List Tern) (node : ℕ) (changes : SwitchChanges g one two node) →
+    switch_state_at new changes.switch ≢ switch_state_at old changes.switch → SwitchChanges g old new node
+changes_between g one two old new node changes differs =
+    record { place = changes.place; switch = changes.switch; at_place = changes.at_place; other = changes.other; joins = changes.joins; changed = differs }
+
 -- what two changes stir, one of them does, and what one of them stirs, both do together if none changes twice
 pub Touches-then : (g : GraphData) (old mid new : List Tern) (before between after : List Bool) → NoneTwice old mid new →
     Touches g old mid before between → Touches g mid new between after → Touches g old new before after
@@ -141,22 +147,8 @@ Touches-then g old mid new before between after once first next = record {
   all = λ node storage changes.
       let switch = changes.switch in
       elim (one_or_apart (switch_state_at mid switch) (switch_state_at old switch)) [
-        | inl same ↦ next.all node storage (record {
-          place = changes.place;
-          switch = switch;
-          at_place = changes.at_place;
-          other = changes.other;
-          joins = changes.joins;
-          changed = λ e. changes.changed (e ∙ same);
-        })
-        | inr differs ↦ next.stays node (first.all node storage (record {
-          place = changes.place;
-          switch = switch;
-          at_place = changes.at_place;
-          other = changes.other;
-          joins = changes.joins;
-          changed = differs;
-        }))
+        | inl same ↦ next.all node storage (changes_between g old new mid new node changes (λ e. changes.changed (e ∙ same)))
+        | inr differs ↦ next.stays node (first.all node storage (changes_between g old new old mid node changes differs))
       ];
   only = λ node touched.
       elim (next.only node touched) [
@@ -166,30 +158,16 @@ Touches-then g old mid new before between after once first next = record {
 }
   where
     at_first : (node : ℕ) → SwitchChanges g old mid node → SwitchChanges g old new node
-    at_first node changes = record {
-      place = changes.place;
-      switch = changes.switch;
-      at_place = changes.at_place;
-      other = changes.other;
-      joins = changes.joins;
-      changed = elim (once changes.switch.gate) [
-        | inl same ↦ absurd (changes.changed (ap (state_by changes.switch.kind) same))
-        | inr same ↦ λ e. changes.changed (ap (state_by changes.switch.kind) (sym same) ∙ e)
-      ];
-    }
+    at_first node changes = changes_between g old mid old new node changes (elim (once changes.switch.gate) [
+      | inl same ↦ absurd (changes.changed (ap (state_by changes.switch.kind) same))
+      | inr same ↦ λ e. changes.changed (ap (state_by changes.switch.kind) (sym same) ∙ e)
+    ])
 
     behind : (node : ℕ) → SwitchChanges g mid new node → SwitchChanges g old new node
-    behind node changes = record {
-      place = changes.place;
-      switch = changes.switch;
-      at_place = changes.at_place;
-      other = changes.other;
-      joins = changes.joins;
-      changed = elim (once changes.switch.gate) [
-        | inl same ↦ λ e. changes.changed (e ∙ ap (state_by changes.switch.kind) (sym same))
-        | inr same ↦ absurd (changes.changed (ap (state_by changes.switch.kind) same))
-      ];
-    }
+    behind node changes = changes_between g mid new old new node changes (elim (once changes.switch.gate) [
+      | inl same ↦ λ e. changes.changed (e ∙ ap (state_by changes.switch.kind) (sym same))
+      | inr same ↦ absurd (changes.changed (ap (state_by changes.switch.kind) same))
+    ])
 
 -- nothing changes, nothing is touched
 pub Touches-none : (g : GraphData) (state : List Tern) (touched : List Bool) → Touches g state state touched touched

@@ -79,6 +79,13 @@ impl NodeSet {
         &self.list
     }
 
+    /// For each node whether it is in it.
+    pub fn marks(&self) -> &[bool]
+        ensures { result.now ≡ self.now.inside }
+    {
+        &self.marks
+    }
+
     /// What is in it is listed.
     pub fn lists_what_is_in_it(&self)
         ensures listed { (node : ℕ) → IsIn self.now.inside node → Contains self.now.list node }

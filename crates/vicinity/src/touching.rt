@@ -35,7 +35,7 @@ pub(crate) fn take_all(
 }
 
 /// Gives a node this state, and touches the storage nodes at which a switch changes by it. Its switches turn in the
-/// lists of their ends.
+/// lists of their ends; if it is the gate of none, the state is all that changes.
 pub fn take_state(
     graph: &Graph,
     lists: &mut LiveLists,
@@ -52,6 +52,10 @@ pub fn take_state(
     ensures state { state.new ≡ slice_set state.old node value }
     ensures touches { Touches graph.now state.old state.new touched.old.inside touched.new.inside }
 {
+    if lists.gated(node).is_empty() {
+        state[node] = value;
+        return;
+    }
     let was = state[node];
     lists.turn(graph, state, node, value);
     state[node] = value;
