@@ -145,6 +145,16 @@ impl Agenda {
         Some(k)
     }
 
+    /// Takes the marks off all parts but those that wait.
+    pub fn clear(&mut self)
+        ensures marks { (k : ℕ) → IsMarked self.new.marks k ↔ IsMarked self.old.waiting k }
+        ensures count { length self.new.marks ≡ length self.old.marks }
+        ensures waiting { self.new.waiting ≡ self.old.waiting }
+    {
+        while let Some(_part) = self.pop() {}
+        self.waiting_parts_are_marked();
+    }
+
     /// Lets a part that is stale go on without waiting: it stays marked.
     pub fn release(&mut self, k: usize)
         requires { k < length self.old.marks }

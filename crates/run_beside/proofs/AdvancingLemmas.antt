@@ -1,10 +1,9 @@
 -- A step of the run under a fault. What is evaluated is of parts that are apart, and doesn't follow; so the good run's changes that are taken over and
 -- those of the run under a fault itself are of different nodes, and each is as if it were alone.
-use Rattle.std.proofs.Common.{◌≡◌, ◌≢◌, ℕ, zero, suc, ◌+◌, ◌<◌, ◌≤◌, Bool, true, false, inl, inr, List, ◌++◌, length, take, get_or, refl, sym, ap, subst, ◌∙◌, arith}
+use Rattle.std.proofs.Common.{◌≡◌, ◌≢◌, ℕ, zero, suc, ◌+◌, ◌<◌, ◌≤◌, Bool, true, false, inl, inr, List, length, take, get_or, refl, sym, ap, subst, ◌∙◌, arith}
 use Rattle.std.specs.Prelude.{Contains, Option, slice_set}
 use Rattle.std.proofs.Math.Seq.{take-length}
-use Rattle.std.proofs.lemmas.List.{ext_get_or}
-use Rattle.std.proofs.lemmas.List.Elements.{Contains-append_left, Contains-append_right, Contains-get_or}
+use Rattle.std.proofs.lemmas.List.Elements.{Contains-get_or}
 use Rattle.smallvec.specs.SmallVec.{SmallVec}
 use Rattle.ternary.specs.declared.tern.Tern.{Tern}
 use Rattle.ternary.specs.declared.tern.Tern.TheVariants.{Zero}
@@ -12,7 +11,7 @@ use Rattle.switch_paths.specs.Switching.{state_at}
 use Rattle.part_words.specs.declared.change.Change.{Change}
 use Rattle.machine_parts.specs.declared.part.MachinePart.{MachinePart}
 use Rattle.machine_parts.specs.Marking.{IsMarked, MarksAll}
-use Rattle.machine_parts.specs.Stepping.{IsGiven, StaysMarked}
+use Rattle.machine_parts.specs.Stepping.{IsGiven, ReadsChange, StaysMarked}
 use Rattle.machine_parts.specs.Evaluating.{Rooms, Evaluated}
 use Rattle.machine_parts.specs.Readers.{readers_of}
 use Rattle.machine_parts.specs.Running.{AreAgreed, AreOwners, IsRunnable, IsTaken}
@@ -25,8 +24,9 @@ use Rattle.wide_groups.proofs.WideCases.{awake_stale, stale_only_in}
 use Rattle.part_steps.proofs.TakingLemmas.{change_of}
 use Rattle.part_steps.proofs.AdvanceLemmas.{AreChanges, Moves-taken, changes_agree, changes_inside}
 use Rattle.run_beside.specs.Following.{IsWritten, FollowsAt}
-use Rattle.run_beside.specs.Noticing.{NoticesChanges}
+use Rattle.run_beside.specs.Noticing.{NoticesBoth, ReadsSomeAgreeing}
 use Rattle.run_beside.specs.Stepping.{MovesBeside, RemarksBeside}
+use Rattle.run_beside.proofs.KeepingApart.{follows_or_not}
 
 -- changes that agree can be taken over into some state
 taken_somewhere : (changes : List Change) (old : List Tern) → ((change : Change) → Contains changes change → change.node < length old) → AreAgreed changes →
@@ -126,33 +126,37 @@ module _ (joining : Bool) (parts : List MachinePart) (marks waiting : List Bool)
           let value : change.value ≡ state_at old change.node = sym (taken.taken change there) ∙ ap (λ states. state_at states change.node) same in
           elim (are.only change there) [ inl (k, marked, is) ↦ is.differs value | inr awake ↦ awake.differs value ]
 
-      -- and if neither run changes a node it stays
-      pub still_beside : length changes ≡ 0 → length own ≡ 0 → new ≡ old
-      still_beside none none_own =
-          ext_get_or Zero new old (taken.count ∙ followed.count) (λ node inside.
-          taken.stays node (λ change (k, within, here). absurd (omega (arith, within, none_own)))
-          ∙ followed.stays node (λ change (k, within, here) asked. absurd (omega (arith, within, none))))
+      -- and if it changes none, the good run's changes are taken over, and that is all
+      pub still_beside : length own ≡ 0 → IsWritten (FollowsAt owners apart) changes old new
+      still_beside none = record {
+        count = taken.count ∙ followed.count;
+        taken = λ change there asked. unchanged change.node ∙ followed.taken change there asked;
+        stays = λ node unasked. unchanged node ∙ followed.stays node unasked;
+      }
+        where
+          unchanged : (node : ℕ) → state_at new node ≡ state_at mid node
+          unchanged node = taken.stays node (λ change (k, within, here). absurd (omega (arith, within, none)))
 
       -- the marks afterwards
-      pub remarks_beside : (first second third new_apart : List Bool) (coded : List Change) (done : List ℕ) (good_next : List Tern) →
+      pub remarks_beside : (first second third new_apart : List Bool) (coded : List Change) (done : List ℕ) (good good_next : List Tern) →
           Evaluated joining parts old waiting marks first coded done → length first ≡ length marks →
           MarksAll (λ k. (joining ≡ true) × Contains done k) first second →
-          NoticesChanges (changes ++ own) owners readers good_next new apart new_apart second third →
+          IsTaken changes good good_next → NoticesBoth changes own owners readers good_next new apart new_apart second third →
           RemarksBeside joining parts marks old new apart new_apart third
-      remarks_beside first second third new_apart coded done good_next evaluated counted again notices = record {
+      remarks_beside first second third new_apart coded done good good_next evaluated counted again in_good notices = record {
         count = notices.count ∙ (again.count ∙ counted);
         count_apart = notices.apart.count;
         still_apart = notices.apart.stays;
         stays = λ k stays. notices.stays k (stays_by joining coded evaluated again refl k stays);
         entered = notices.entered;
         reads = λ k change is.
-            notices.wakes k (elim (change_of (changes ++ own) change.node) [
-              | inl (noted, there, same) ↦ record {
+            notices.wakes k (elim (change_of own change.node) [
+              | inl (noted, there, same) ↦ inr (record {
                 change = noted;
                 changes_it = there;
                 reads = subst (λ n. Contains (readers_of readers n) k) (sym same) (runs.readers change.node k change.reads);
-              }
-              | inr none ↦ absurd (change.changed (unchanged change.node none))
+              })
+              | inr none ↦ inl (taken_over k change none)
             ]) is;
         only = λ k marked. elim (notices.only k marked) [
           | inl before ↦ notices.apart.stays k (only k (was_marked k before))
@@ -160,10 +164,26 @@ module _ (joining : Bool) (parts : List MachinePart) (marks waiting : List Bool)
         ];
       }
         where
-          unchanged : (node : ℕ) → ((change : Change) → Contains (changes ++ own) change → change.node ≢ node) → state_at new node ≡ state_at old node
-          unchanged node none =
-              taken.stays node (λ change there. none change (Contains-append_right changes own change there))
-              ∙ followed.stays node (λ change there asked. none change (Contains-append_left changes own change there))
+          -- a node that changed, though the run under a fault didn't change it itself, follows, so that it agrees
+          taken_over : (k : ℕ) (change : ReadsChange parts old new k) → ((noted : Change) → Contains own noted → noted.node ≢ change.node) →
+              ReadsSomeAgreeing changes readers good_next new k
+          taken_over k change none =
+              let same_mid = taken.stays change.node none in
+              elim (follows_or_not owners apart change.node) [
+                | inr out ↦ absurd (change.changed (same_mid ∙ mid_same change.node out))
+                | inl asked ↦ elim (change_of changes change.node) [
+                  | inr unnoted ↦ absurd (change.changed (same_mid ∙ followed.stays change.node (λ noted there asked_too. unnoted noted there)))
+                  | inl (noted, there, same) ↦
+                      let asked_there = subst (FollowsAt owners apart) (sym same) asked in
+                      let at_noted = subst (λ n. state_at new n ≡ state_at mid n) (sym same) same_mid in
+                      record {
+                        change = noted;
+                        there = there;
+                        agrees = at_noted ∙ (followed.taken noted there asked_there ∙ sym (in_good.taken noted there));
+                        reads = subst (λ n. Contains (readers_of readers n) k) (sym same) (runs.readers change.node k change.reads);
+                      }
+                ]
+              ]
 
           was_marked : (k : ℕ) → IsMarked second k → IsMarked marks k
           was_marked k before =

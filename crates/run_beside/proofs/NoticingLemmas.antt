@@ -10,7 +10,7 @@ use Rattle.part_words.specs.declared.change.Change.{Change}
 use Rattle.machine_parts.specs.Marking.{IsMarked}
 use Rattle.machine_parts.specs.Readers.{readers_of}
 use Rattle.machine_parts.proofs.SetMarks.{marked-set, marked-stays, marked-set_cases}
-use Rattle.run_beside.specs.Noticing.{IsConcerned, ConcernsDiffering, Notices, NoticesChanges}
+use Rattle.run_beside.specs.Noticing.{IsConcerned, ConcernsDiffering, Notices, NoticesBoth, NoticesChanges, NoticesGood, ReadsAgreeing}
 
 -- some parts and then others
 pub Notices-then : (Enters Wakes EntersToo WakesToo : ℕ → Type 0) (a b c l m n : List Bool) → Notices Enters Wakes a b l m → Notices EntersToo WakesToo b c m n →
@@ -157,6 +157,22 @@ Notices-entered parts i k a b c l m n inside is so_far one =
     last_or_before : (j : ℕ) → Contains (take i parts ++ k ∷ []) j → Contains (take i parts) j ⊎ (j ≡ k)
     last_or_before j this = elim (Contains-push_cases (take i parts) k j this) [ inl before ↦ inl before | inr same ↦ inr (sym same) ]
 
+-- the same, if none wakes
+pub Notices-came : (parts : List ℕ) (i k : ℕ) (a b c l m n : List Bool) → i < length parts → k ≡ get_or parts i k →
+    Notices (Contains (take i parts)) (λ j. ⊥) a b l m → Notices (λ j. j ≡ k) (λ j. ⊥) b c m n →
+    Notices (Contains (take (i + 1) parts)) (λ j. ⊥) a c l n
+Notices-came parts i k a b c l m n inside is so_far one =
+    let more : take (i + 1) parts ≡ take i parts ++ k ∷ [] = take_more parts i k inside ∙ ap (λ x. take i parts ++ x ∷ []) (sym is) in
+    subst (λ xs. Notices (Contains xs) (λ j. ⊥) a c l n) (sym more)
+    (Notices-as _ _ _ _ a c l n
+    (λ j this. elim this [
+      | inl before ↦ Contains-append_left (take i parts) (k ∷ []) j before
+      | inr same ↦ subst (Contains (take i parts ++ k ∷ [])) (sym same) (Contains-push (take i parts) k)
+    ])
+    (λ j this. elim (Contains-push_cases (take i parts) k j this) [ inl before ↦ inl before | inr same ↦ inr (sym same) ])
+    (λ j none. absurd none)
+    (Notices-then (Contains (take i parts)) (λ j. ⊥) (λ j. j ≡ k) (λ j. ⊥) a b c l m n so_far one))
+
 -- and of one that wakes
 pub Notices-awake : (parts : List ℕ) (i k : ℕ) (a l m n : List Bool) → i < length parts → k ≡ get_or parts i k →
     Notices (λ j. ⊥) (Contains (take i parts)) a a l m → Notices (λ j. ⊥) (λ j. j ≡ k) a a m n →
@@ -181,6 +197,17 @@ Notices-node owners readers node owner parts a b c l m n owner_is parts_are firs
     (λ k this. inr (subst (λ xs. Contains xs k) (sym parts_are) this))
     (Notices-then _ _ _ _ a b c l m n first then)
 
+-- the same, if none wakes
+pub Notices-concerned : (owners : List (Option ℕ)) (readers : List (SmallVec ℕ)) (node : ℕ) (owner : Option ℕ) (parts : List ℕ) (a b c l m n : List Bool) →
+    owner ≡ slice_index_or owners node None → parts ≡ readers_of readers node → Notices (λ k. owner ≡ Some k) (λ k. ⊥) a b l m →
+    Notices (Contains parts) (λ k. ⊥) b c m n → Notices (IsConcerned owners readers node) (λ k. ⊥) a c l n
+Notices-concerned owners readers node owner parts a b c l m n owner_is parts_are first then =
+    Notices-as _ _ _ _ a c l n
+    (λ k this. elim this [ inl own ↦ inl (sym owner_is ∙ own) | inr reads ↦ inr (subst (λ xs. Contains xs k) parts_are reads) ])
+    (λ k this. elim this [ inl own ↦ inl (owner_is ∙ own) | inr reads ↦ inr (subst (λ xs. Contains xs k) (sym parts_are) reads) ])
+    (λ k none. absurd none)
+    (Notices-then _ _ _ _ a b c l m n first then)
+
 -- a node that differs puts them apart
 pub Notices-differing : (owners : List (Option ℕ)) (readers : List (SmallVec ℕ)) (good bad : List Tern) (node : ℕ) (a b m n : List Bool) →
     state_at bad node ≢ state_at good node → Notices (IsConcerned owners readers node) (Contains (readers_of readers node)) a b m n →
@@ -194,6 +221,38 @@ pub Notices-agreeing : (owners : List (Option ℕ)) (readers : List (SmallVec �
     Notices (ConcernsDiffering owners readers good bad node) (Contains (readers_of readers node)) a a m n
 Notices-agreeing owners readers good bad node parts a m n same parts_are notices =
     Notices-as _ _ _ _ a a m n (λ k none. absurd none) (λ k this. absurd (this.0 same)) (λ k this. subst (λ xs. Contains xs k) (sym parts_are) this) notices
+
+-- of a change of the good run a node that differs wakes none
+pub NoticesGood-differing : (owners : List (Option ℕ)) (readers : List (SmallVec ℕ)) (good bad : List Tern) (node : ℕ) (a b m n : List Bool) →
+    state_at bad node ≢ state_at good node → Notices (IsConcerned owners readers node) (λ k. ⊥) a b m n →
+    Notices (ConcernsDiffering owners readers good bad node) (ReadsAgreeing readers good bad node) a b m n
+NoticesGood-differing owners readers good bad node a b m n differs notices =
+    Notices-as _ _ _ _ a b m n (λ k this. (differs, this)) (λ k this. this.1) (λ k this. absurd (differs this.0)) notices
+
+-- and one that agrees wakes its readers alone
+pub NoticesGood-agreeing : (owners : List (Option ℕ)) (readers : List (SmallVec ℕ)) (good bad : List Tern) (node : ℕ) (parts : List ℕ) (a m n : List Bool) →
+    state_at bad node ≡ state_at good node → parts ≡ readers_of readers node → Notices (λ k. ⊥) (Contains parts) a a m n →
+    Notices (ConcernsDiffering owners readers good bad node) (ReadsAgreeing readers good bad node) a a m n
+NoticesGood-agreeing owners readers good bad node parts a m n same parts_are notices =
+    Notices-as _ _ _ _ a a m n (λ k none. absurd none) (λ k this. absurd (this.0 same)) (λ k this. subst (λ xs. Contains xs k) (sym parts_are) this.1) notices
+
+-- or nothing, if those that are apart are marked
+pub Notices-marked : (owners : List (Option ℕ)) (readers : List (SmallVec ℕ)) (good bad : List Tern) (node : ℕ) (apart marks : List Bool) →
+    state_at bad node ≡ state_at good node → ((k : ℕ) → Contains (readers_of readers node) k → IsMarked apart k → IsMarked marks k) →
+    Notices (ConcernsDiffering owners readers good bad node) (ReadsAgreeing readers good bad node) apart apart marks marks
+Notices-marked owners readers good bad node apart marks same marked = record {
+  apart = record {
+    count = refl;
+    stays = λ k was. was;
+    set = λ k this. absurd (this.0 same);
+    only = λ k is. inl is;
+  };
+  count = refl;
+  stays = λ k was. was;
+  entered = λ k is. inl is;
+  wakes = λ k this is. marked k this.1 is;
+  only = λ k was. inl was;
+}
 
 -- the changes of two lists
 pub NoticesChanges-then : (xs ys : List Change) (owners : List (Option ℕ)) (readers : List (SmallVec ℕ)) (good bad : List Tern) (a b c l m n : List Bool) →
@@ -241,3 +300,49 @@ NoticesChanges-more changes i change owners readers good bad a b c l m n inside 
     subst (λ xs. NoticesChanges xs owners readers good bad a c l n) (sym more)
     (NoticesChanges-then (take i changes) (change ∷ []) owners readers good bad a b c l m n so_far
     (NoticesChanges-one change owners readers good bad b c m n one))
+
+-- one more change of the good run
+pub NoticesGood-more : (changes : List Change) (i : ℕ) (change : Change) (owners : List (Option ℕ)) (readers : List (SmallVec ℕ)) (good bad : List Tern)
+    (a b c l m n : List Bool) → i < length changes → change ≡ get_or changes i change →
+    NoticesGood (take i changes) owners readers good bad a b l m →
+    Notices (ConcernsDiffering owners readers good bad change.node) (ReadsAgreeing readers good bad change.node) b c m n →
+    NoticesGood (take (i + 1) changes) owners readers good bad a c l n
+NoticesGood-more changes i change owners readers good bad a b c l m n inside is so_far one =
+    let more : take (i + 1) changes ≡ take i changes ++ change ∷ [] = take_more changes i change inside ∙ ap (λ x. take i changes ++ x ∷ []) (sym is) in
+    subst (λ xs. NoticesGood xs owners readers good bad a c l n) (sym more)
+    (Notices-as _ _ _ _ a c l n
+    (λ k this. elim this [
+      | inl before ↦ record {
+        change = before.change;
+        there = Contains-append_left (take i changes) (change ∷ []) before.change before.there;
+        differs = before.differs;
+        concerns = before.concerns;
+      }
+      | inr here ↦ record { change = change; there = Contains-push (take i changes) change; differs = here.0; concerns = here.1 }
+    ])
+    (λ k this. elim (Contains-push_cases (take i changes) change this.change this.there) [
+      | inl before ↦ inl (record { change = this.change; there = before; differs = this.differs; concerns = this.concerns })
+      | inr same ↦ inr (subst (λ (x : Change). ConcernsDiffering owners readers good bad x.node k) (sym same) (this.differs, this.concerns))
+    ])
+    (λ k this. elim (Contains-push_cases (take i changes) change this.change this.there) [
+      | inl before ↦ inl (record { change = this.change; there = before; agrees = this.agrees; reads = this.reads })
+      | inr same ↦ inr (subst (λ (x : Change). ReadsAgreeing readers good bad x.node k) (sym same) (this.agrees, this.reads))
+    ])
+    (Notices-then _ _ _ _ a b c l m n so_far one))
+
+-- the changes of the good run, and then those of the run under a fault
+pub NoticesBoth-from : (changes own : List Change) (owners : List (Option ℕ)) (readers : List (SmallVec ℕ)) (good bad : List Tern) (a b c l m n : List Bool) →
+    NoticesGood changes owners readers good bad a b l m → NoticesChanges own owners readers good bad b c m n →
+    NoticesBoth changes own owners readers good bad a c l n
+NoticesBoth-from changes own owners readers good bad a b c l m n first then =
+    Notices-as _ _ _ _ a c l n
+    (λ k this. elim this [
+      | inl one ↦ record { change = one.change; there = Contains-append_left changes own one.change one.there; differs = one.differs; concerns = one.concerns }
+      | inr two ↦ record { change = two.change; there = Contains-append_right changes own two.change two.there; differs = two.differs; concerns = two.concerns }
+    ])
+    (λ k this. elim (Contains-append_cases changes own this.change this.there) [
+      | inl there ↦ inl (record { change = this.change; there = there; differs = this.differs; concerns = this.concerns })
+      | inr there ↦ inr (record { change = this.change; there = there; differs = this.differs; concerns = this.concerns })
+    ])
+    (λ k this. this)
+    (Notices-then _ _ _ _ a b c l m n first then)

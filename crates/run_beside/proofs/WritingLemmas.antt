@@ -15,6 +15,15 @@ use Rattle.vicinity.proofs.TouchLemmas.{NoneTwice}
 use Rattle.part_steps.proofs.TakingLemmas.{Contains-from_take}
 use Rattle.run_beside.specs.Following.{IsWritten}
 
+-- the same, if the nodes that are asked for are said otherwise
+pub IsWritten-as : (Asked AskedToo : ℕ → Type 0) (changes : List Change) (old new : List Tern) → ((node : ℕ) → Asked node → AskedToo node) →
+    ((node : ℕ) → AskedToo node → Asked node) → IsWritten Asked changes old new → IsWritten AskedToo changes old new
+IsWritten-as Asked AskedToo changes old new to from written = record {
+  count = written.count;
+  taken = λ change there asked. written.taken change there (from change.node asked);
+  stays = λ node none. written.stays node (λ change there asked. none change there (to change.node asked));
+}
+
 module _ (Asked : ℕ → Type 0) (changes : List Change) (i : ℕ) (change : Change) (old mid : List Tern) (inside : i < length changes)
     (is : change ≡ get_or changes i change) (so_far : IsWritten Asked (take i changes) old mid) where
   more : take (i + 1) changes ≡ take i changes ++ change ∷ []

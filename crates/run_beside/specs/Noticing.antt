@@ -29,6 +29,17 @@ pub record ConcernsSome (changes : List Change) (owners : List (Option ℕ)) (re
   pub differs : state_at bad change.node ≢ state_at good change.node
   pub concerns : IsConcerned owners readers change.node k
 
+-- the node agrees in both runs, and the part with this number reads it
+abbrev pub ReadsAgreeing : List (SmallVec ℕ) → List Tern → List Tern → ℕ → ℕ → Type 0
+ReadsAgreeing readers good bad node k = (state_at bad node ≡ state_at good node) × Contains (readers_of readers node) k
+
+-- some node of these changes does, and the part with this number reads it
+pub record ReadsSomeAgreeing (changes : List Change) (readers : List (SmallVec ℕ)) (good bad : List Tern) (k : ℕ) : Type 0 where
+  pub change : Change
+  pub there : Contains changes change
+  pub agrees : state_at bad change.node ≡ state_at good change.node
+  pub reads : Contains (readers_of readers change.node) k
+
 -- parts are put apart, and parts that are apart are marked: those that enter are apart afterwards, and no others but those that were; each of them
 -- is marked, and so is each that is apart afterwards and wakes; no mark is lost
 pub record Notices (Enters Wakes : ℕ → Type 0) (old_apart new_apart old_marks new_marks : List Bool) : Type 0 where
@@ -43,6 +54,17 @@ pub record Notices (Enters Wakes : ℕ → Type 0) (old_apart new_apart old_mark
 abbrev pub NoticesChanges : List Change → List (Option ℕ) → List (SmallVec ℕ) → List Tern → List Tern → List Bool → List Bool → List Bool → List Bool → Type 0
 NoticesChanges changes owners readers good bad =
     Notices (ConcernsSome changes owners readers good bad) (ReadsAny readers changes)
+
+-- of these changes of the good run those nodes that differ put the parts apart that they concern, and those that agree wake the parts that read them: a
+-- node that differs didn't follow
+abbrev pub NoticesGood : List Change → List (Option ℕ) → List (SmallVec ℕ) → List Tern → List Tern → List Bool → List Bool → List Bool → List Bool → Type 0
+NoticesGood changes owners readers good bad =
+    Notices (ConcernsSome changes owners readers good bad) (ReadsSomeAgreeing changes readers good bad)
+
+-- the changes of a step: those of the good run, and then those of the run under a fault alone
+abbrev pub NoticesBoth : List Change → List Change → List (Option ℕ) → List (SmallVec ℕ) → List Tern → List Tern → List Bool → List Bool → List Bool → List Bool → Type 0
+NoticesBoth changes own owners readers good bad =
+    Notices (ConcernsSome (changes ++ own) owners readers good bad) (λ k. ReadsSomeAgreeing changes readers good bad k ⊎ ReadsAny readers own k)
 
 -- every part stays apart that a node concerns which differs, in a step that wrote these changes of the good run if they follow, then these of
 -- nodes that don't follow, and then put apart what they concern

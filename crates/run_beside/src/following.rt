@@ -4,8 +4,9 @@ ghost use Rattle.std.specs.Bool.{OnTrue, OnFalse};
 ghost use Rattle.part_words.specs.declared.change.Change.{Change};
 ghost use Rattle.machine_parts.specs.Words.{AreAgreed, IsTaken};
 ghost use Rattle.wide_groups.specs.Awake.{IsListedIn, TurnedIn};
-ghost use Rattle.run_beside.specs.Words.{IsWritten, FollowsAt};
+ghost use Rattle.run_beside.specs.Words.{IsWritten, FollowsAt, IsOut};
 
+use crate::near::is_out;
 use part_words::Change;
 use ternary::Tern;
 use vicinity::{NodeSet, Wide};
@@ -25,11 +26,12 @@ pub fn does_follow(owners: &[Option<usize>], apart: &NodeSet, node: usize) -> bo
 }
 
 /// Takes over the changes of a step of the good run: the good state has them all, and the state under the fault
-/// those of the nodes that follow.
+/// those of the nodes that follow. Those whose flag is unset do.
 pub fn follow(
     changes: &[Change],
     owners: &[Option<usize>],
     apart: &NodeSet,
+    near: &[bool],
     good: &mut [Tern],
     bad: &mut [Tern],
     wide: &mut Option<Wide>,
@@ -39,6 +41,7 @@ pub fn follow(
     requires counted { length bad.old ≡ length good.old }
     requires owned { length owners.now ≡ length good.old }
     requires owners { (n k : ℕ) → slice_index_or owners.now n None ≡ Some k → k < length apart.now.inside }
+    requires far { (node : ℕ) → IsOut near.now node → node < length good.old → FollowsAt owners.now apart.now.inside node }
     requires wide { IsListedIn bad.old wide.old }
     ensures good { IsTaken changes.now good.old good.new }
     ensures bad { IsWritten (FollowsAt owners.now apart.now.inside) changes.now bad.old bad.new }
@@ -46,7 +49,7 @@ pub fn follow(
 {
     for change in changes {
         good[change.node] = change.value;
-        follow_one(*change, owners, apart, bad, wide);
+        follow_one(*change, owners, apart, near, bad, wide);
     }
 }
 
@@ -55,20 +58,36 @@ fn follow_one(
     change: Change,
     owners: &[Option<usize>],
     apart: &NodeSet,
+    near: &[bool],
     bad: &mut [Tern],
     wide: &mut Option<Wide>,
 )
     requires inside { change.node < length bad.old }
     requires owned { length owners.now ≡ length bad.old }
     requires owners { (n k : ℕ) → slice_index_or owners.now n None ≡ Some k → k < length apart.now.inside }
+    requires far { IsOut near.now change.node → FollowsAt owners.now apart.now.inside change.node }
     requires wide { IsListedIn bad.old wide.old }
     ensures bad { (FollowsAt owners.now apart.now.inside change.node × (bad.new ≡ slice_set bad.old change.node change.value))
         ⊎ ((¬ FollowsAt owners.now apart.now.inside change.node) × (bad.new ≡ bad.old)) }
     ensures turned { TurnedIn wide.old wide.new bad.old bad.new }
 {
-    if does_follow(owners, apart, change.node) {
+    if is_taken_over(owners, apart, near, change.node) {
         write(change.node, change.value, bad, wide);
     }
+}
+
+// Whether a node follows, which those do whose flag is unset.
+fn is_taken_over(owners: &[Option<usize>], apart: &NodeSet, near: &[bool], node: usize) -> bool
+    requires inside { node < length owners.now }
+    requires owners { (n k : ℕ) → slice_index_or owners.now n None ≡ Some k → k < length apart.now.inside }
+    requires far { IsOut near.now node → FollowsAt owners.now apart.now.inside node }
+    ensures yes { OnTrue result (FollowsAt owners.now apart.now.inside node) }
+    ensures no { OnFalse result (¬ FollowsAt owners.now apart.now.inside node) }
+{
+    if is_out(near, node) {
+        return true;
+    }
+    does_follow(owners, apart, node)
 }
 
 /// Writes all of these changes.

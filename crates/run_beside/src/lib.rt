@@ -7,7 +7,8 @@
 //!
 //! The parts of these groups are apart, and perhaps others. `advance_beside` takes a step: it takes the good run's changes
 //! over (`follow`), but for the members of parts that are apart, which are evaluated if they are marked; then it puts apart
-//! what differs, and marks the parts that are apart and may move in the next step (`notice`). The layers above use
+//! what differs, and marks the parts that are apart and may move in the next step (`notice`). The nodes are known that are near
+//! the parts that are apart (`Near`): of any other one a change is taken over, and that is all. The layers above use
 //! `StepsByDifference`: if each node follows, is evaluated or rests, the run under a fault took the step of its graph.
 //!
 //! ```text
@@ -16,7 +17,7 @@
 //! ```
 //!
 //! For the proofs of crates above: `AgreeingGroups` and `DifferenceSteps` (how groups move on which both agree),
-//! `NoticingLemmas` (what is noticed of some changes and then of others), `WritingLemmas`.
+//! `NoticingLemmas` (what is noticed of some changes and then of others), `NearLemmas` (what is near some parts), `WritingLemmas`.
 //!
 //! After Bryant and Schuster, "Performance Evaluation of FMOSSIM, a Concurrent Switch-Level Fault
 //! Simulator", 1985.
@@ -24,6 +25,7 @@
 
 mod following;
 mod laws;
+mod near;
 mod noticing;
 mod stepping;
 
@@ -32,5 +34,6 @@ pub use laws::{
     agreeing_groups_move_alike, replacements_add_up, runs_stay_beside, settled_states_stay,
     steps_by_difference, steps_keep_apart,
 };
-pub use noticing::notice;
+pub use near::{Near, PARTS_A_CHANGE, is_out, know_near, look_near, near_flags};
+pub use noticing::{notice, notice_near};
 pub use stepping::advance_beside;

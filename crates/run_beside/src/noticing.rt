@@ -3,9 +3,10 @@ ghost use Rattle.std.specs.Prelude.{◌≡◌, ◌≢◌, ℕ, ◌<◌, Contains
 ghost use Rattle.std.specs.Bool.{OnTrue, OnFalse};
 ghost use Rattle.switch_paths.specs.Switching.{state_at};
 ghost use Rattle.part_words.specs.declared.change.Change.{Change};
-ghost use Rattle.machine_parts.specs.Words.{readers_of};
-ghost use Rattle.run_beside.specs.Words.{IsConcerned, ConcernsDiffering, Notices, NoticesChanges};
+ghost use Rattle.machine_parts.specs.Words.{IsMarked, readers_of};
+ghost use Rattle.run_beside.specs.Words.{IsConcerned, ConcernsDiffering, IsOut, Notices, NoticesChanges, NoticesGood, ReadsAgreeing};
 
+use crate::near::is_out;
 use part_steps::{Agenda, ReaderLists};
 use part_words::Change;
 use ternary::Tern;
@@ -33,6 +34,94 @@ pub fn notice(
 {
     for change in changes {
         notice_node(change.node, owners, readers, good, bad, apart, agenda);
+    }
+}
+
+/// Of these changes' nodes, which the good run changed, each that differs puts the parts apart that it concerns, and marks those that
+/// weren't: it didn't follow, so to those that were apart it is new only if the run under a fault changed it, which `notice` is told of.
+/// Each that agrees marks the parts that are apart and read it. Nodes whose flag is unset aren't looked at: these agree, and no part
+/// that is apart reads them.
+pub fn notice_near(
+    changes: &[Change],
+    owners: &[Option<usize>],
+    readers: &ReaderLists,
+    near: &[bool],
+    good: &[Tern],
+    bad: &[Tern],
+    apart: &mut NodeSet,
+    agenda: &mut Agenda,
+)
+    requires inside { (change : Change) → Contains changes.now change → change.node < length good.now }
+    requires counted { length bad.now ≡ length good.now }
+    requires owned { length owners.now ≡ length good.now }
+    requires read { length readers.now ≡ length good.now }
+    requires parts { (node k : ℕ) → IsConcerned owners.now readers.now node k → k < length apart.old.inside }
+    requires marks { length agenda.old.marks ≡ length apart.old.inside }
+    requires agrees { (change : Change) → Contains changes.now change → IsOut near.now change.node → state_at bad.now change.node ≡ state_at good.now change.node }
+    requires unread { (change : Change) → Contains changes.now change → IsOut near.now change.node →
+        (k : ℕ) → Contains (readers_of readers.now change.node) k → ¬ IsMarked apart.old.inside k }
+    ensures notices { NoticesGood changes.now owners.now readers.now good.now bad.now apart.old.inside apart.new.inside agenda.old.marks agenda.new.marks }
+    ensures waiting { agenda.new.waiting ≡ agenda.old.waiting }
+{
+    for change in changes {
+        notice_unless_far(change.node, owners, readers, near, good, bad, apart, agenda);
+    }
+}
+
+// Puts the parts apart that a node concerns, if it differs; if it agrees, marks those of its readers that are apart. One whose flag is
+// unset is passed: it agrees, and its readers that are apart are marked.
+fn notice_unless_far(
+    node: usize,
+    owners: &[Option<usize>],
+    readers: &ReaderLists,
+    near: &[bool],
+    good: &[Tern],
+    bad: &[Tern],
+    apart: &mut NodeSet,
+    agenda: &mut Agenda,
+)
+    requires inside { node < length good.now }
+    requires counted { length bad.now ≡ length good.now }
+    requires owned { length owners.now ≡ length good.now }
+    requires read { length readers.now ≡ length good.now }
+    requires parts { (k : ℕ) → IsConcerned owners.now readers.now node k → k < length apart.old.inside }
+    requires marks { length agenda.old.marks ≡ length apart.old.inside }
+    requires agrees { IsOut near.now node → state_at bad.now node ≡ state_at good.now node }
+    requires marked { IsOut near.now node → (k : ℕ) → Contains (readers_of readers.now node) k → IsMarked apart.old.inside k → IsMarked agenda.old.marks k }
+    ensures notices { Notices (ConcernsDiffering owners.now readers.now good.now bad.now node) (ReadsAgreeing readers.now good.now bad.now node)
+        apart.old.inside apart.new.inside agenda.old.marks agenda.new.marks }
+    ensures waiting { agenda.new.waiting ≡ agenda.old.waiting }
+{
+    if is_out(near, node) {
+        return;
+    }
+    notice_good(node, owners, readers, good, bad, apart, agenda);
+}
+
+// Puts the parts apart that a node concerns, if it differs; if it agrees, marks those of its readers that are apart.
+fn notice_good(
+    node: usize,
+    owners: &[Option<usize>],
+    readers: &ReaderLists,
+    good: &[Tern],
+    bad: &[Tern],
+    apart: &mut NodeSet,
+    agenda: &mut Agenda,
+)
+    requires inside { node < length good.now }
+    requires counted { length bad.now ≡ length good.now }
+    requires owned { length owners.now ≡ length good.now }
+    requires read { length readers.now ≡ length good.now }
+    requires parts { (k : ℕ) → IsConcerned owners.now readers.now node k → k < length apart.old.inside }
+    requires marks { length agenda.old.marks ≡ length apart.old.inside }
+    ensures notices { Notices (ConcernsDiffering owners.now readers.now good.now bad.now node) (ReadsAgreeing readers.now good.now bad.now node)
+        apart.old.inside apart.new.inside agenda.old.marks agenda.new.marks }
+    ensures waiting { agenda.new.waiting ≡ agenda.old.waiting }
+{
+    if differ_at(good, bad, node) {
+        enter_concerned(node, owners, readers, apart, agenda);
+    } else {
+        wake_all(readers.of(node), apart, agenda);
     }
 }
 
@@ -93,6 +182,25 @@ fn separate(
     enter_all(readers.of(node), apart, agenda);
 }
 
+// Puts the parts apart that a node concerns, and marks those that weren't.
+fn enter_concerned(
+    node: usize,
+    owners: &[Option<usize>],
+    readers: &ReaderLists,
+    apart: &mut NodeSet,
+    agenda: &mut Agenda,
+)
+    requires owned { node < length owners.now }
+    requires read { node < length readers.now }
+    requires parts { (k : ℕ) → IsConcerned owners.now readers.now node k → k < length apart.old.inside }
+    requires marks { length agenda.old.marks ≡ length apart.old.inside }
+    ensures notices { Notices (IsConcerned owners.now readers.now node) (λ k. ⊥) apart.old.inside apart.new.inside agenda.old.marks agenda.new.marks }
+    ensures waiting { agenda.new.waiting ≡ agenda.old.waiting }
+{
+    enter_owner(owners[node], apart, agenda);
+    enter_readers(readers.of(node), apart, agenda);
+}
+
 // Puts the part apart that owns a node, if one does, and marks it if it wasn't.
 fn enter_owner(owner: Option<usize>, apart: &mut NodeSet, agenda: &mut Agenda)
     requires parts { (k : ℕ) → owner ≡ Some k → k < length apart.old.inside }
@@ -114,6 +222,18 @@ fn enter_new(k: usize, apart: &mut NodeSet, agenda: &mut Agenda)
 {
     if apart.insert(k) {
         agenda.mark(k);
+    }
+}
+
+// Puts these parts apart, and marks those that weren't.
+fn enter_readers(parts: &[usize], apart: &mut NodeSet, agenda: &mut Agenda)
+    requires parts { (k : ℕ) → Contains parts.now k → k < length apart.old.inside }
+    requires marks { length agenda.old.marks ≡ length apart.old.inside }
+    ensures notices { Notices (Contains parts.now) (λ k. ⊥) apart.old.inside apart.new.inside agenda.old.marks agenda.new.marks }
+    ensures waiting { agenda.new.waiting ≡ agenda.old.waiting }
+{
+    for &k in parts {
+        enter_new(k, apart, agenda);
     }
 }
 

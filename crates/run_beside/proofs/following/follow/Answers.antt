@@ -39,6 +39,11 @@ follow_one-requires-clause-wide c =
     listed_turned c.args.wide.now c.loop-change.wide c.args.bad.now c.loop-change.bad c.loop-change.invariant.turned
     c.loop-change.invariant.bad.count c.requires.wide
 
+pub follow_one-requires-clause-far : goal.follow_one-requires-clause-far
+unfolding first
+follow_one-requires-clause-far c = λ far.
+    c.requires.far _ far (c.requires.inside _ (Contains-get_or c.args.changes.now c.loop-change.change-index first c.loop-change-test.true))
+
 pub loop-change-preserved : goal.loop-change-preserved
 unfolding first
 loop-change-preserved c =

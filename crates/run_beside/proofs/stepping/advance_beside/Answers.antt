@@ -1,5 +1,5 @@
 -- A step beside the good run's, from what was noted of it.
-use Rattle.std.proofs.Common.{◌≡◌, ◌<◌, [], ◌++◌, true, inl, inr, ◌⊎◌, List, length, sym, ap, subst, ◌∙◌, arith}
+use Rattle.std.proofs.Common.{◌≡◌, ◌<◌, ◌++◌, true, inl, inr, ◌⊎◌, List, length, sym, subst, ◌∙◌, arith}
 use Rattle.std.specs.Prelude.{Contains, Option, ℕ, slice_index_or}
 use Rattle.std.specs.Bool.{OnTrue, OnFalse}
 use Rattle.std.proofs.lemmas.Bool.{OnTrue_from, OnTrue_at, OnFalse_from, OnFalse_at}
@@ -21,12 +21,15 @@ use Rattle.wide_groups.specs.Awake.{IsListedIn, CalmsIn, TurnedIn, ListsIn}
 use Rattle.wide_groups.proofs.WideCases.{listed_in, enough_in, listed_calm, listed_turned, holds_turned, TurnedIn-then, RetouchesIn-from}
 use Rattle.part_steps.proofs.TakingLemmas.{IsTaken-then}
 use Rattle.part_steps.proofs.AdvanceLemmas.{AreChanges, AreChanges-from_Evaluated, agreed_left, agreed_right, changes_inside, changes_agree, cleared_rooms}
-use Rattle.run_beside.specs.Noticing.{IsConcerned, NoticesChanges}
-use Rattle.run_beside.proofs.NoticingLemmas.{NoticesChanges-then}
+use Rattle.run_beside.specs.Following.{IsWritten, FollowsAt}
+use Rattle.run_beside.specs.Near.{AreNearIn, IsFar}
+use Rattle.run_beside.specs.Noticing.{IsConcerned, NoticesBoth}
+use Rattle.run_beside.proofs.NearLemmas.{far_follows, far_unread, fits_parts}
+use Rattle.run_beside.proofs.NoticingLemmas.{NoticesBoth-from, NoticesChanges-then}
 use Rattle.run_beside.proofs.KeepingApart.{steps_keep}
 use Rattle.run_beside.proofs.AdvancingLemmas.{once, moves_beside, own_moves, still_beside, remarks_beside}
 use Rattle.run_beside.proofs.stepping.advance_beside.Given.{Over}
-use Rattle.run_beside.proofs.stepping.advance_beside.Goals.{After-evaluate_awake, After-calm, After-follow, After-write_all, After-write_all-2, After-notice-3}
+use Rattle.run_beside.proofs.stepping.advance_beside.Goals.{After-evaluate_awake, After-calm, After-look_near, After-follow, After-write_all, After-write_all-2, After-notice-2}
 use Rattle.run_beside.proofs.stepping.advance_beside.Goals as goal
 
 pub evaluate_all-requires : goal.evaluate_all-requires
@@ -80,15 +83,35 @@ calm_listed g c =
     listed_calm c.args.bad.now c.args.joining c.evaluate_awake.new.wide c.calm.new.wide c.calm.ensures
     (subst (IsListedIn c.args.bad.now) (sym c.evaluate_awake.ensures.same) (listed_in c.args.parts.now c.args.bad.now _ c.args.wide.now c.requires.wide))
 
+pub look_near-requires : goal.look_near-requires
+look_near-requires g c =
+    fits_parts c.args.parts.now c.args.agenda.now.marks c.args.agenda.now.waiting (length c.args.bad.now) c.args.readers.now (rooms c.args.workspace.now)
+    c.requires.runnable c.args.owners.now c.requires.owners.counted c.args.apart.now.inside c.requires.apart c.args.near.now c.requires.near
+
+-- what is near is known still
+are_near : (g : Over) (c : After-look_near g) → AreNearIn c.args.parts.now c.args.owners.now c.look_near.new.near
+are_near g c = c.look_near.ensures.near c.args.owners.now c.requires.near
+
+-- and a node that is far follows
+follows_far : (g : Over) (c : After-look_near g) (node : ℕ) → IsFar c.look_near.new.near node → node < length c.args.bad.now →
+    FollowsAt c.args.owners.now c.args.apart.now.inside node
+follows_far g c node far inside =
+    far_follows c.args.parts.now (length c.args.bad.now) c.args.owners.now c.requires.owners c.args.changes.now c.args.apart.now c.look_near.new.near
+    (are_near g c) c.look_near.ensures.tells node (omega (arith, inside, c.requires.owners.counted)) far
+
 pub follow-requires : goal.follow-requires
-follow-requires g c = record {
-  inside = c.requires.inside;
-  agreed = c.requires.agreed;
-  counted = sym c.requires.counted;
-  owned = c.requires.owners.counted ∙ sym c.requires.counted;
-  owners = λ n k is. omega (arith, (c.requires.owners.member n k is).stands.inside, c.requires.apart);
-  wide = calm_listed g (goal.at.follow-requires g c).After-calm;
-}
+follow-requires g c =
+    let at_end = goal.at.follow-requires g c in
+    record {
+      inside = c.requires.inside;
+      agreed = c.requires.agreed;
+      counted = sym c.requires.counted;
+      owned = c.requires.owners.counted ∙ sym c.requires.counted;
+      owners = λ n k is. omega (arith, (c.requires.owners.member n k is).stands.inside, c.requires.apart);
+      far = λ node out inside.
+          follows_far g at_end.After-look_near node (c.near_flags.ensures node out) (omega (arith, inside, c.requires.counted));
+      wide = calm_listed g at_end.After-calm;
+    }
 
 -- and so they are after the good run's
 follow_listed : (g : Over) (c : After-follow g) → IsListedIn c.args.bad.now c.calm.new.wide → IsListedIn c.follow.new.bad c.follow.new.wide
@@ -151,10 +174,14 @@ marks_there : (g : Over) (c : After-write_all-2 g) → length c.mark_again.new.a
 marks_there g c =
     omega (arith, c.mark_again.ensures.marks.count, c.evaluate_all.ensures.count, c.requires.runnable.counted, c.requires.apart)
 
-pub notice-requires : goal.notice-requires
-notice-requires g c =
-    let at_end = goal.at.notice-requires g c in
+pub notice_near-requires : goal.notice_near-requires
+notice_near-requires g c =
+    let at_end = goal.at.notice_near-requires g c in
     let own = own_taken g at_end.After-write_all-2 (agreed_all g at_end.After-evaluate_awake) (first_taken g at_end.After-write_all) in
+    let moves = moves_beside c.args.joining c.args.parts.now c.args.agenda.now.marks c.args.agenda.now.waiting c.args.bad.now c.args.readers.now
+    (rooms c.args.workspace.now) c.requires.runnable c.args.wide.now _ c.requires.wide c.waiting_parts_are_marked.ensures c.args.owners.now c.requires.owners
+    c.args.apart.now.inside c.requires.marked _ (are_changes g at_end.After-evaluate_awake) c.args.changes.now c.follow.new.bad c.write_all-2.new.state
+    c.follow.ensures.bad own in
     record {
       inside = λ change there. omega (arith, c.requires.inside change there, c.follow.ensures.good.count);
       counted = omega (arith, own.count, c.follow.ensures.bad.count, c.follow.ensures.good.count, c.requires.counted);
@@ -162,15 +189,25 @@ notice-requires g c =
       read = omega (arith, c.requires.runnable.readers_counted, c.follow.ensures.good.count, c.requires.counted);
       parts = parts_there g at_end.After-write_all-2;
       marks = marks_there g at_end.After-write_all-2;
+      agrees = λ change there out.
+          let far = c.near_flags-2.ensures change.node out in
+          let inside : change.node < length c.args.bad.now = omega (arith, c.requires.inside change there, c.requires.counted) in
+          moves.follows change there (follows_far g at_end.After-look_near change.node far inside)
+          ∙ sym (c.follow.ensures.good.taken change there);
+      unread = λ change there out.
+          let far = c.near_flags-2.ensures change.node out in
+          far_unread c.args.parts.now c.args.agenda.now.marks c.args.agenda.now.waiting (length c.args.bad.now) c.args.readers.now (rooms c.args.workspace.now)
+          c.requires.runnable c.args.owners.now c.args.changes.now c.args.apart.now c.look_near.new.near (are_near g at_end.After-look_near)
+          c.look_near.ensures.tells change.node (omega (arith, c.requires.inside change there, c.requires.counted, c.requires.owners.counted)) far;
     }
 
-pub notice-requires-2 : goal.notice-requires-2
-notice-requires-2 g c =
-    let at_end = goal.at.notice-requires-2 g c in
+pub notice-requires : goal.notice-requires
+notice-requires g c =
+    let at_end = goal.at.notice-requires g c in
     let own = own_taken g at_end.After-write_all-2 (agreed_all g at_end.After-evaluate_awake) (first_taken g at_end.After-write_all) in
     let xs = c.evaluate_all.new.workspace.changes.items in
     let ys = c.evaluate_awake.new.noted.items in
-    let before = c.notice.ensures.notices in
+    let before = c.notice_near.ensures.notices in
     record {
       inside = λ change there.
           let inside = inside_all g at_end.After-evaluate_awake change
@@ -183,14 +220,14 @@ notice-requires-2 g c =
       marks = omega (arith, marks_there g at_end.After-write_all-2, before.apart.count, before.count);
     }
 
-pub notice-requires-3 : goal.notice-requires-3
-notice-requires-3 g c =
-    let at_end = goal.at.notice-requires-3 g c in
+pub notice-requires-2 : goal.notice-requires-2
+notice-requires-2 g c =
+    let at_end = goal.at.notice-requires-2 g c in
     let own = own_taken g at_end.After-write_all-2 (agreed_all g at_end.After-evaluate_awake) (first_taken g at_end.After-write_all) in
     let xs = c.evaluate_all.new.workspace.changes.items in
     let ys = c.evaluate_awake.new.noted.items in
-    let before = c.notice.ensures.notices in
-    let then = c.notice-2.ensures.notices in
+    let before = c.notice_near.ensures.notices in
+    let then = c.notice.ensures.notices in
     record {
       inside = λ change there.
           let inside = inside_all g at_end.After-evaluate_awake change
@@ -204,9 +241,9 @@ notice-requires-3 g c =
     }
 
 -- what is noticed of all changes
-all_noticed : (g : Over) (c : After-notice-3 g) →
-    NoticesChanges (c.args.changes.now ++ (c.evaluate_all.new.workspace.changes.items ++ c.evaluate_awake.new.noted.items)) c.args.owners.now c.args.readers.now
-    c.follow.new.good c.write_all-2.new.state c.args.apart.now.inside c.notice-3.new.apart.inside c.mark_again.new.agenda.marks c.notice-3.new.agenda.marks
+all_noticed : (g : Over) (c : After-notice-2 g) →
+    NoticesBoth c.args.changes.now (c.evaluate_all.new.workspace.changes.items ++ c.evaluate_awake.new.noted.items) c.args.owners.now c.args.readers.now
+    c.follow.new.good c.write_all-2.new.state c.args.apart.now.inside c.notice-2.new.apart.inside c.mark_again.new.agenda.marks c.notice-2.new.agenda.marks
 all_noticed g c =
     let owners = c.args.owners.now in
     let readers = c.args.readers.now in
@@ -214,12 +251,12 @@ all_noticed g c =
     let bad = c.write_all-2.new.state in
     let xs = c.evaluate_all.new.workspace.changes.items in
     let ys = c.evaluate_awake.new.noted.items in
-    let two = rw c.deref-4.ensures.value at c.notice-2.ensures.notices in
-    let three = rw c.deref-5.ensures.value at c.notice-3.ensures.notices in
-    NoticesChanges-then c.args.changes.now (xs ++ ys) owners readers good bad c.args.apart.now.inside c.notice.new.apart.inside c.notice-3.new.apart.inside
-    c.mark_again.new.agenda.marks c.notice.new.agenda.marks c.notice-3.new.agenda.marks c.notice.ensures.notices
-    (NoticesChanges-then xs ys owners readers good bad c.notice.new.apart.inside c.notice-2.new.apart.inside c.notice-3.new.apart.inside
-    c.notice.new.agenda.marks c.notice-2.new.agenda.marks c.notice-3.new.agenda.marks two three)
+    let two = rw c.deref-4.ensures.value at c.notice.ensures.notices in
+    let three = rw c.deref-5.ensures.value at c.notice-2.ensures.notices in
+    NoticesBoth-from c.args.changes.now (xs ++ ys) owners readers good bad c.args.apart.now.inside c.notice_near.new.apart.inside c.notice-2.new.apart.inside
+    c.mark_again.new.agenda.marks c.notice_near.new.agenda.marks c.notice-2.new.agenda.marks c.notice_near.ensures.notices
+    (NoticesChanges-then xs ys owners readers good bad c.notice_near.new.apart.inside c.notice.new.apart.inside c.notice-2.new.apart.inside
+    c.notice_near.new.agenda.marks c.notice.new.agenda.marks c.notice-2.new.agenda.marks two three)
 
 pub returns-clause-good : goal.returns-clause-good
 returns-clause-good g c = c.follow.ensures.good
@@ -288,11 +325,11 @@ returns-clause-holds g c =
 pub returns-clause-kept : goal.returns-clause-kept
 returns-clause-kept g c =
     let at_end = goal.at.returns-clause-kept g c in
-    steps_keep c.args.owners.now c.args.readers.now c.args.apart.now.inside c.notice-3.new.apart.inside c.args.changes.now
+    steps_keep c.args.owners.now c.args.readers.now c.args.apart.now.inside c.notice-2.new.apart.inside c.args.changes.now
     (c.evaluate_all.new.workspace.changes.items ++ c.evaluate_awake.new.noted.items) c.args.good.now c.follow.new.good c.args.bad.now c.follow.new.bad
     c.write_all-2.new.state c.requires.kept c.follow.ensures.good c.follow.ensures.bad
     (own_taken g at_end.After-write_all-2 (agreed_all g at_end.After-evaluate_awake) (first_taken g at_end.After-write_all))
-    (all_noticed g at_end.After-notice-3).apart
+    (all_noticed g at_end.After-notice-2).apart
 
 pub returns-clause-marks : goal.returns-clause-marks
 returns-clause-marks g c =
@@ -304,8 +341,12 @@ returns-clause-marks g c =
     c.requires.runnable c.args.wide.now _ c.requires.wide c.waiting_parts_are_marked.ensures c.args.owners.now c.requires.owners c.args.apart.now.inside
     c.requires.marked _ (are_changes g at_end.After-evaluate_awake) c.args.changes.now c.follow.new.bad c.write_all-2.new.state c.follow.ensures.bad
     (own_taken g at_end.After-write_all-2 (agreed_all g at_end.After-evaluate_awake) (first_taken g at_end.After-write_all))
-    c.evaluate_all.new.agenda.marks c.mark_again.new.agenda.marks c.notice-3.new.agenda.marks c.notice-3.new.apart.inside
-    c.evaluate_all.new.workspace.changes.items c.evaluate_all.new.workspace.done.items c.follow.new.good e.evaluated e.count again (all_noticed g at_end.After-notice-3)
+    c.evaluate_all.new.agenda.marks c.mark_again.new.agenda.marks c.notice-2.new.agenda.marks c.notice-2.new.apart.inside
+    c.evaluate_all.new.workspace.changes.items c.evaluate_all.new.workspace.done.items c.args.good.now c.follow.new.good e.evaluated e.count again
+    c.follow.ensures.good (all_noticed g at_end.After-notice-2)
+
+pub returns-clause-near : goal.returns-clause-near
+returns-clause-near g c = c.look_near.ensures.near c.args.owners.now c.requires.near
 
 pub returns-clause-rooms : goal.returns-clause-rooms
 returns-clause-rooms g c =
@@ -345,10 +386,11 @@ returns-clause-same g c =
     let xs = c.evaluate_all.new.workspace.changes.items in
     let ys = c.evaluate_awake.new.noted.items in
     let none : OnFalse c.is_any.result ((length xs ≡ 0) × (length ys ≡ 0)) = rw (c.deref-6.ensures.value, c.deref-7.ensures.value) at c.is_any.ensures.none in
-    OnFalse_from c.is_any.result (c.args.changes.now ≡ [] → c.write_all-2.new.state ≡ c.args.bad.now) (λ unset empty.
+    OnFalse_from c.is_any.result (IsWritten (FollowsAt c.args.owners.now c.args.apart.now.inside) c.args.changes.now c.args.bad.now c.write_all-2.new.state)
+    (λ unset.
     let (no_first, no_second) = OnFalse_at {P = (length xs ≡ 0) × (length ys ≡ 0)} unset none in
     still_beside c.args.joining c.args.parts.now c.args.agenda.now.marks c.args.agenda.now.waiting c.args.bad.now c.args.readers.now
     (rooms c.args.workspace.now) c.requires.runnable c.args.wide.now _ c.requires.wide c.waiting_parts_are_marked.ensures c.args.owners.now c.requires.owners
     c.args.apart.now.inside c.requires.marked _ (are_changes g at_end.After-evaluate_awake) c.args.changes.now c.follow.new.bad c.write_all-2.new.state
     c.follow.ensures.bad (own_taken g at_end.After-write_all-2 (agreed_all g at_end.After-evaluate_awake) (first_taken g at_end.After-write_all))
-    (ap length empty) (length-append xs ys ∙ omega (arith, no_first, no_second)))
+    (length-append xs ys ∙ omega (arith, no_first, no_second)))
