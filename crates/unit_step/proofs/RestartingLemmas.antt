@@ -1,6 +1,6 @@
 -- A machine with more marks covers and fits what it did, and nodes are given one after another.
 use Rattle.std.proofs.Common.{◌≡◌, ℕ, zero, suc, ◌+◌, ◌<◌, inl, inr, Bool, true, List, length, refl, sym, ap, subst, ◌∙◌, arith}
-use Rattle.std.specs.Prelude.{slice_set}
+use Rattle.std.specs.Prelude.{Option, slice_set}
 use Rattle.std.proofs.lemmas.Bool.{cases_lt}
 use Rattle.std.proofs.lemmas.List.{ext_get_or, get_or-set_same, get_or-set_other, length-set}
 use Rattle.ternary.specs.declared.tern.Tern.{Tern}
@@ -9,11 +9,16 @@ use Rattle.switch_paths.specs.declared.TheConstants.{RAILS}
 use Rattle.switch_paths.specs.Switching.{state_at}
 use Rattle.switch_paths.specs.Graphs.{GraphData}
 use Rattle.switch_paths.specs.Rails.{IsSound}
+use Rattle.machine_parts.specs.declared.part.MachinePart.{MachinePart}
 use Rattle.machine_parts.specs.Marking.{IsMarked}
+use Rattle.machine_parts.specs.Stepping.{Concerns}
 use Rattle.machine_parts.proofs.SetMarks.{marked-set, marked-stays}
 use Rattle.machine_laws.specs.Machines.{MachineData, Places}
 use Rattle.machine_laws.specs.Fitting.{Covers, FitsGraph}
-use Rattle.unit_step.specs.Restarting.{StaysOn, GivesNode, GivesBelow, MarksBelow, MarksParts, Restarts}
+use Rattle.machine_laws.proofs.PlacingLemmas.{Places-beside}
+use Rattle.vicinity.specs.Wides.{WideData}
+use Rattle.wide_groups.specs.Moving.{PlacesIn}
+use Rattle.unit_step.specs.Restarting.{AllMarked, StaysOn, GivesNode, GivesBelow, MarksBelow, MarksParts, Restarts}
 
 -- both states of the rails are those of a sound state
 pub rails_alike : (one two : List Tern) → IsSound one → IsSound two → (node : ℕ) → node < RAILS → state_at one node ≡ state_at two node
@@ -137,33 +142,54 @@ MarksBelow-more old mid k inside below = record {
       ];
 }
 
--- a machine whose nodes were given and whose parts were marked starts again
-pub restarted : (g : GraphData) (state : List Tern) (old mid marked : MachineData) → length state ≡ length old.state →
-    GivesBelow g state (length state) old mid → MarksParts mid marked →
-    Restarts g state old (record marked { moves = 0; placed = 0 })
-restarted g state old mid marked counted given marks = record {
+-- a part that a node concerns is one of the parts
+concerned_inside : (parts : List MachinePart) (k node : ℕ) → Concerns parts k node → k < length parts
+concerned_inside parts k node (inl has) = has.stands.inside
+concerned_inside parts k node (inr reads) = reads.stands.inside
+
+-- where all parts are marked a node is placed without a further mark
+pub placed_unmarked : (node : ℕ) (value : Tern) (old : MachineData) (wide : Option WideData) → AllMarked old →
+    PlacesIn node old.wide wide old.state (slice_set old.state node value) → Places node value old (record old { state = slice_set old.state node value; wide = wide })
+placed_unmarked node value old wide marked placed =
+    Places-beside node value old old.marks (slice_set old.state node value) old.placed wide refl refl (λ k was. was)
+    (λ k concerns. marked k (concerned_inside old.parts k node concerns)) (λ k was. inl was) placed
+
+-- so each part stays marked while nodes are given
+pub marked_still : (g : GraphData) (state : List Tern) (end : ℕ) (old new : MachineData) → AllMarked old → GivesBelow g state end old new → new.marks ≡ old.marks →
+    AllMarked new
+marked_still g state end old new marked given same k inside =
+    subst (λ marks. IsMarked marks k) (sym same) (marked k (subst (λ parts. k < length parts) given.stays.held.parts inside))
+
+-- all parts are marked where those are marked that there are
+pub marked_parts : (old new : MachineData) → MarksParts old new → AllMarked new
+marked_parts old new marks k inside = marks.marks.set k (subst (λ n. k < n) (ap (λ (m : MachineData). length m.parts) marks.rest) inside)
+
+-- a machine whose parts were marked and whose nodes were given starts again
+pub restarted : (g : GraphData) (state : List Tern) (old marked new : MachineData) → length state ≡ length old.state → MarksParts old marked →
+    GivesBelow g state (length state) marked new → new.marks ≡ marked.marks → Restarts g state old (record new { moves = 0; placed = 0 })
+restarted g state old marked new counted marks given same = record {
   covers = λ covers.
-      subst (λ (m : MachineData). Covers g (record m { moves = 0; placed = 0 })) (sym marks.rest)
-      (more_marks_cover g mid marked.marks 0 0 (given.stays.covers covers) marks.marks.stays);
+      more_marks_cover g new new.marks 0 0
+      (given.stays.covers (subst (Covers g) (sym marks.rest) (more_marks_cover g old marked.marks old.moves old.placed covers marks.marks.stays))) (λ k was. was);
   fits = λ fits.
-      subst (λ (m : MachineData). FitsGraph g (record m { moves = 0; placed = 0 })) (sym marks.rest)
-      (more_marks_fit g mid marked.marks 0 0 (given.stays.fits fits) marks.marks.stays);
+      more_marks_fit g new new.marks 0 0
+      (given.stays.fits (subst (FitsGraph g) (sym marks.rest) (more_marks_fit g old marked.marks old.moves old.placed fits marks.marks.stays))) (λ k was. was);
   build = record {
-    groups = ap (λ (m : MachineData). m.groups) marks.rest ∙ given.stays.build.groups;
-    last = ap (λ (m : MachineData). m.last) marks.rest ∙ given.stays.build.last;
-    spare = ap (λ (m : MachineData). m.spare) marks.rest ∙ given.stays.build.spare;
+    groups = given.stays.build.groups ∙ ap (λ (m : MachineData). m.groups) marks.rest;
+    last = given.stays.build.last ∙ ap (λ (m : MachineData). m.last) marks.rest;
+    spare = given.stays.build.spare ∙ ap (λ (m : MachineData). m.spare) marks.rest;
   };
   held = record {
-    parts = ap (λ (m : MachineData). m.parts) marks.rest ∙ given.stays.held.parts;
-    uses = ap (λ (m : MachineData). m.uses) marks.rest ∙ given.stays.held.uses;
-    texts = ap (λ (m : MachineData). m.texts) marks.rest ∙ given.stays.held.texts;
+    parts = given.stays.held.parts ∙ ap (λ (m : MachineData). m.parts) marks.rest;
+    uses = given.stays.held.uses ∙ ap (λ (m : MachineData). m.uses) marks.rest;
+    texts = given.stays.held.texts ∙ ap (λ (m : MachineData). m.texts) marks.rest;
   };
   state_is =
       let count = given.stays.count in
-      ap (λ (m : MachineData). m.state) marks.rest
-      ∙ ext_get_or Zero mid.state state (omega (arith, count, counted)) (λ node inside. given.given node (omega (arith, inside, count, counted)));
-  marked = λ k inside. marks.marks.set k (subst (λ n. k < n) (ap (λ (m : MachineData). length m.parts) marks.rest) inside);
-  counted = marks.marks.count ∙ given.stays.marks;
+      let before : length marked.state ≡ length old.state = ap (λ (m : MachineData). length m.state) marks.rest in
+      ext_get_or Zero new.state state (omega (arith, count, counted, before)) (λ node inside. given.given node (omega (arith, inside, count, counted, before)));
+  marked = marked_still g state (length state) marked new (marked_parts old marked marks) given same;
+  counted = given.stays.marks ∙ marks.marks.count;
   moves = refl;
   placed = refl;
 }

@@ -35,13 +35,15 @@ pub record IsCodedAt (parts : List MachinePart) (k : ℕ) : Type 0 where
   pub there : slice_get parts k ≡ Some part
   pub coded : part.code ≢ None
 
--- all that was made is of the body's parts, which are all marked, and none of its groups is stepped by vicinities: a machine can start with it
+-- all that was made is of the body's parts, which are all marked, none of its groups is stepped by vicinities, and nothing is known of what is near
+-- parts: a machine can start with it
 pub record CanStart (body : Body) : Type 0 where
   pub marked : body.agenda.marks ≡ replicate (length body.parts.items) true
   pub runs : IsMachine body.parts.items body.agenda.marks body.agenda.waiting (length body.state.items) body.readers body.owners.items
       body.uses.numbers body.held body.most (rooms body.workspace)
   pub dense : AreDense body.parts.items body.dense
   pub without : body.wide ≡ None
+  pub unknown : body.near ≡ None
   pub last_texts : AreLastTexts body.parts.items body.uses.numbers (length body.state.items) (length body.uses.known) body.last_texts
 
 -- the machine that starts so, with room for so many nodes more

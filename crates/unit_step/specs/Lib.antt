@@ -5,6 +5,7 @@ pub mod Waking
 pub mod Listing
 pub mod Holding
 pub mod Restarting
+pub mod Remarking
 pub mod Beside
 pub mod Among
 pub mod Columns

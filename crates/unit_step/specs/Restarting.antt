@@ -7,6 +7,10 @@ use Rattle.machine_parts.specs.Marking.{IsMarked}
 use Rattle.machine_laws.specs.Machines.{MachineData, KeepsBuild, KeepsParts}
 use Rattle.machine_laws.specs.Fitting.{Covers, FitsGraph}
 
+-- each part is marked
+abbrev pub AllMarked : MachineData → Type 0
+AllMarked m = (k : ℕ) → k < length m.parts → IsMarked m.marks k
+
 -- the machine covers and fits the graph if it did before; its groups, parts, their texts and the room stay, and it has as many nodes and marks
 pub record StaysOn (g : GraphData) (old new : MachineData) : Type 0 where
   pub covers : Covers g old → Covers g new

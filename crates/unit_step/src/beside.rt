@@ -1,5 +1,5 @@
 //! A step of a machine beside a good run's.
-ghost use Rattle.std.specs.Prelude.{◌≡◌, ◌≢◌, ◌↔◌, ◌⊎◌, ℕ, ◌<◌, ◌≤◌, [], Some, true, length, take, Contains};
+ghost use Rattle.std.specs.Prelude.{◌≡◌, ◌≢◌, ◌↔◌, ◌⊎◌, ℕ, ◌<◌, ◌≤◌, Some, true, length, take, Contains};
 ghost use Rattle.std.specs.Bool.{OnTrue, OnFalse};
 ghost use Rattle.switch_paths.specs.Switching.{state_at};
 ghost use Rattle.part_words.specs.declared.change.Change.{Change};
@@ -7,12 +7,13 @@ ghost use Rattle.machine_parts.specs.Words.{AreAgreed, HasMember, IsMarked, IsTa
 ghost use Rattle.machine_parts.specs.Stepping.{Concerns};
 ghost use Rattle.machine_parts.specs.declared.part.MachinePart.{MachinePart};
 ghost use Rattle.wide_groups.specs.Awake.{IsWorked};
-ghost use Rattle.unit_step.specs.Beside.{AdvancesBeside, KeepsPartsApart};
+ghost use Rattle.run_beside.specs.Words.{IsWritten};
+ghost use Rattle.unit_step.specs.Beside.{AdvancesBeside, FollowsByPart, KeepsPartsApart};
 
 use crate::machine::Machine;
 use machine_parts::MachinePart;
 use part_words::Change;
-use run_beside::advance_beside;
+use run_beside::{advance_beside, know_near};
 use std::sync::ledger::Ledger;
 use ternary::{Steps, Tern};
 use vicinity::NodeSet;
@@ -22,7 +23,8 @@ impl Machine {
     /// node. Only parts that are apart are marked.
     ///
     /// The good state takes over the changes, and so do the nodes that are members of parts that aren't apart. What differs
-    /// afterwards is apart. It takes no memory, and isn't counted as a move.
+    /// afterwards is apart. It isn't counted as a move. It takes memory once behind an edit, to know of each node whether it is
+    /// far from all parts that are apart, and does without if there is none.
     ///
     /// After Bryant and Schuster, "Performance Evaluation of FMOSSIM, a Concurrent Switch-Level Fault
     /// Simulator", 1985.
@@ -45,8 +47,14 @@ impl Machine {
         ensures kept { KeepsPartsApart self.new.parts apart.new.inside good.new self.new.state }
         ensures ticks { IsWorked (marked_sum instructions_of self.old.parts self.old.marks) self.old.wide self.old.state steps.old steps.new }
         ensures changed { OnTrue result (self.new.state ≢ self.old.state) }
-        ensures same { OnFalse result (changes.now ≡ [] → self.new.state ≡ self.old.state) }
+        ensures same { OnFalse result (IsWritten (FollowsByPart self.old.parts apart.old.inside) changes.now self.old.state self.new.state) }
     {
+        know_near(
+            *self.body.state.allocator(),
+            &self.body.owners,
+            self.body.parts.len(),
+            &mut self.body.near,
+        );
         advance_beside(
             joining,
             changes,
@@ -61,6 +69,7 @@ impl Machine {
             &mut self.body.workspace,
             &mut self.body.wide,
             &mut self.body.noted,
+            &mut self.body.near,
             steps,
         )
     }

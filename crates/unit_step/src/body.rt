@@ -26,6 +26,7 @@ use part_steps::{
     workspace_for,
 };
 use part_words::Change;
+use run_beside::Near;
 use std::alloc::{AllocError, Global};
 use switch_paths::{Graph, graphs_are_wired};
 use ternary::{NoMemory, Tern};
@@ -57,6 +58,8 @@ pub(crate) struct Body {
     // the groups that are stepped by vicinities, if they are known, and room for a change of each node
     pub(crate) wide: Option<Wide>,
     pub(crate) noted: Vec<Change>,
+    // what is near the parts that are apart in a run beside a good one, if it is known
+    pub(crate) near: Option<Near>,
 }
 
 impl Body {
@@ -141,6 +144,7 @@ impl Body {
             workspace,
             wide: None,
             noted: Vec::new(alloc),
+            near: None,
         })
     }
 

@@ -309,6 +309,7 @@ impl Machine {
         self.body
             .readers
             .list_all(&slots, &parts, &self.body.parts)?;
+        self.body.near = None;
         put_texts(&slots, &numbers, &mut self.body.uses);
         self.body.dense.put_all(&slots, seats);
         put_in(&slots, parts, &mut self.body.parts);

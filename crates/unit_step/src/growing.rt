@@ -24,6 +24,7 @@ impl Machine {
         self.body.owners.reserve(more)?;
         self.body.last_texts.numbers.reserve(more)?;
         self.body.readers.grow(nodes)?;
+        self.body.near = None;
         grow(&mut self.body.state, nodes);
         grow_by(&mut self.body.owners, nodes, None);
         grow_by(&mut self.body.last_texts.numbers, nodes, None);

@@ -41,6 +41,7 @@ mod long;
 mod machine;
 mod making_ready;
 mod planning;
+mod remarking;
 mod restarting;
 mod seating;
 mod waking;

@@ -55,6 +55,7 @@ impl Model for Machine {
     ghost use Rattle.part_steps.specs.Dense.{AreDense};
     ghost use Rattle.unit_step.specs.LastTexts.{AreLastTexts, texts_of_last};
     ghost use Rattle.wide_groups.specs.Awake.{HoldsWide};
+    ghost use Rattle.run_beside.specs.Near.{AreNearIn};
 
     ghost Value = { MachineData };
 
@@ -62,7 +63,7 @@ impl Model for Machine {
 
     ghost invariant = { λ m. IsMachine m.body.parts.items m.body.agenda.marks m.body.agenda.waiting (length m.body.state.items) m.body.readers m.body.owners.items m.body.uses.numbers m.body.held m.body.most (rooms m.body.workspace)
         × AreDense m.body.parts.items m.body.dense × AreLastTexts m.body.parts.items m.body.uses.numbers (length m.body.state.items) (length m.body.uses.known) m.body.last_texts
-        × HoldsWide m.body.parts.items m.body.state.items (vec_capacity m.body.noted) m.body.wide };
+        × HoldsWide m.body.parts.items m.body.state.items (vec_capacity m.body.noted) m.body.wide × AreNearIn m.body.parts.items m.body.owners.items m.body.near };
 }
 
 impl Machine {
@@ -181,6 +182,7 @@ impl Machine {
             workspace: _workspace,
             wide: _wide,
             noted: _noted,
+            near: _near,
         } = body;
         (parts, state)
     }

@@ -4,12 +4,13 @@ ghost use Rattle.std.specs.Bool.{OnTrue};
 ghost use Rattle.switch_paths.specs.declared.TheConstants.{RAILS};
 ghost use Rattle.switch_paths.specs.Switching.{state_at};
 ghost use Rattle.switch_paths.specs.Words.{IsSound};
-ghost use Rattle.unit_step.specs.Restarting.{GivesNode, GivesBelow, MarksBelow, MarksParts, Restarts};
+ghost use Rattle.unit_step.specs.Restarting.{AllMarked, GivesNode, GivesBelow, MarksBelow, MarksParts, Restarts};
 
 use crate::machine::Machine;
 use part_steps::Agenda;
-use switch_paths::{Graph, RAILS};
+use switch_paths::{Graph, RAILS, graphs_are_wired};
 use ternary::Tern;
+use wide_groups::place;
 
 impl Machine {
     /// Starts again in this state, which is sound as the present one is. All parts are marked, and nothing was moved
@@ -23,32 +24,37 @@ impl Machine {
         requires sound_again { IsSound state.now }
         ensures { Restarts graph.now state.now self.old self.new }
     {
-        self.give_all(graph, state);
         self.mark_all_parts();
+        self.give_all(graph, state);
         self.forget_counts();
     }
 
-    // Gives each node that is no rail its state here.
+    // Gives each node that is no rail its state here, if all parts are marked.
     fn give_all(&mut self, graph: &Graph, state: &[Tern])
         requires counted { length state.now ≡ length self.old.state }
         requires rails { (node : ℕ) → node < RAILS → state_at self.old.state node ≡ state_at state.now node }
-        ensures { GivesBelow graph.now state.now (length state.now) self.old self.new }
+        requires marked { AllMarked self.old }
+        ensures gives { GivesBelow graph.now state.now (length state.now) self.old self.new }
+        ensures marks { self.new.marks ≡ self.old.marks }
     {
         for node in RAILS..state.len() {
             self.give(graph, node, state[node]);
         }
     }
 
-    // Gives a node that is no rail this state, if it has another.
+    // Gives a node that is no rail this state, if it has another. All parts are marked, and so no part need be.
     fn give(&mut self, graph: &Graph, node: usize, value: Tern)
         requires inside { node < length self.old.state }
         requires no_rail { RAILS ≤ node }
-        ensures { GivesNode graph.now node value self.old self.new }
+        requires marked { AllMarked self.old }
+        ensures gives { GivesNode graph.now node value self.old self.new }
+        ensures marks { self.new.marks ≡ self.old.marks }
     {
         if has_state(self.state(), node, value) {
             return;
         }
-        self.set_node(graph, node, value);
+        graphs_are_wired(graph);
+        place(node, value, &mut self.body.state, &mut self.body.wide);
     }
 
     /// Marks all parts. It takes no memory.

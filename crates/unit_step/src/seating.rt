@@ -27,6 +27,7 @@ impl Machine {
         ensures err { OnErr result (self.new ≡ self.old) }
     {
         self.body.last_texts.note(&self.body.parts[k])?;
+        self.body.near = None;
         let alloc = *self.body.state.allocator();
         let gone = mem::replace(&mut self.body.parts[k], no_part(alloc));
         self.body.dense.clear(k);
@@ -62,6 +63,7 @@ impl Machine {
         widen_for_parts(&mut self.body.workspace, most, self.body.parts.len() + 1)?;
         self.body.uses.add()?;
         self.body.agenda.wait_more()?;
+        self.body.near = None;
         own(self.body.parts.len(), members, &mut self.body.owners);
         self.body.parts.push_reserved(part);
         self.body.dense.add_stale();

@@ -58,6 +58,7 @@ returns-clause-starts c =
           (c.in_ok-readers.ensures.count ∙ nodes_are) readers reads own (omega (arith, c.requires.numbered)) number refl fits _ waits);
       dense = dense;
       without = refl;
+      unknown = refl;
       last_texts = subst (λ list. AreLastTexts list c.args.uses.numbers nodes (length c.args.uses.known) c.in_ok-last_texts.last_texts)
           c.deref-7.ensures.value
           (subst (λ n. AreLastTexts c.deref-7.result.now c.args.uses.numbers n (length c.args.uses.known) c.in_ok-last_texts.last_texts) nodes_are

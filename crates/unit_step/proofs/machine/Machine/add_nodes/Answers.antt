@@ -25,11 +25,11 @@ widened-requires c =
 
 pub invariant_of-self : goal.invariant_of-self
 invariant_of-self c =
-    (c.self.invariant.0, c.self.invariant.1, c.self.invariant.2, none_holds _ _ _ _ c.replace-known.ensures.after)
+    (c.self.invariant.0, c.self.invariant.1, c.self.invariant.2, none_holds _ _ _ _ c.replace-known.ensures.after, c.self.invariant.4)
 
 pub invariant_of-self-in_err-reserve : goal.invariant_of-self-in_err-reserve
 invariant_of-self-in_err-reserve c =
-    rw c.reserve.ensures.items (c.self.invariant.0, c.self.invariant.1, c.self.invariant.2, none_holds _ _ _ _ c.replace-known.ensures.after)
+    rw c.reserve.ensures.items (c.self.invariant.0, c.self.invariant.1, c.self.invariant.2, none_holds _ _ _ _ c.replace-known.ensures.after, c.self.invariant.4)
 
 pub invariant_of-self-in_err-reserve-2 : goal.invariant_of-self-in_err-reserve-2
 invariant_of-self-in_err-reserve-2 c =
@@ -40,6 +40,7 @@ invariant_of-self-in_err-reserve-2 c =
       AreLastTexts-same i.body.parts.items i.body.uses.numbers (length i.body.state.items) (length i.body.uses.known) i.body.last_texts c.self.invariant.2 i.body.uses.numbers _
           (λ k. refl) c.reserve-2.ensures.items refl,
       none_holds _ _ _ _ c.replace-known.ensures.after,
+      c.self.invariant.4,
     )
 
 pub invariant_of-self-in_err-grow : goal.invariant_of-self-in_err-grow
@@ -51,6 +52,7 @@ invariant_of-self-in_err-grow c =
       AreLastTexts-same i.body.parts.items i.body.uses.numbers (length i.body.state.items) (length i.body.uses.known) i.body.last_texts c.self.invariant.2 i.body.uses.numbers _
           (λ k. refl) c.reserve-2.ensures.items refl,
       none_holds _ _ _ _ c.replace-known.ensures.after,
+      c.self.invariant.4,
     )
 
 pub invariant_of-self-2 : goal.invariant_of-self-2
@@ -93,6 +95,7 @@ invariant_of-self-2 c =
           i.body.wide c.in_ok-wide.wide (subst (λ wide. GrowsIn nodes wide c.in_ok-wide.wide) c.replace-known.ensures.value c.in_ok-wide.ensures.grows)
           (length-replicate (nodes - count) Unk)
           (subst (λ n. IfSome c.in_ok-wide.wide (λ _. n ≤ vec_capacity c.widened.new.noted)) (sym all_nodes) c.in_ok-wide.ensures.room) c.self.invariant.3),
+      tt,
     )
 
 pub returns-clause-ok : goal.returns-clause-ok

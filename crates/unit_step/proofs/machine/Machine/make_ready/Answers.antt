@@ -126,6 +126,7 @@ invariant_of-self c =
       c.self.invariant.1,
       last_texts_numbered (goal.at.invariant_of-self c).After-numbers_of,
       c.self.invariant.3,
+      c.self.invariant.4,
     )
 
 pub returns-in_err-numbers-clause-err : goal.returns-in_err-numbers-clause-err
@@ -139,6 +140,7 @@ invariant_of-self-in_err-widen_for_codes c =
       c.self.invariant.1,
       last_texts_numbered (goal.at.invariant_of-self-in_err-widen_for_codes c).After-numbers_of,
       c.self.invariant.3,
+      c.self.invariant.4,
     )
 
 pub returns-in_err-widen_for_codes-clause-err : goal.returns-in_err-widen_for_codes-clause-err
@@ -152,6 +154,7 @@ invariant_of-self-in_err-seats c =
       c.seats_for.ensures.same i.body.parts.items c.self.invariant.1,
       last_texts_numbered (goal.at.invariant_of-self-in_err-seats c).After-numbers_of,
       c.self.invariant.3,
+      c.self.invariant.4,
     )
 
 pub returns-in_err-seats-clause-err : goal.returns-in_err-seats-clause-err
@@ -185,6 +188,7 @@ invariant_of-self-in_err-note_all c =
       c.seats_for.ensures.same i.body.parts.items c.self.invariant.1,
       last_texts_noted (goal.at.invariant_of-self-in_err-note_all c).After-note_all,
       c.self.invariant.3,
+      c.self.invariant.4,
     )
 
 pub returns-in_err-note_all-clause-err : goal.returns-in_err-note_all-clause-err
@@ -225,6 +229,7 @@ invariant_of-self-in_err-list_all c =
       c.seats_for.ensures.same i.body.parts.items c.self.invariant.1,
       last_texts_noted (goal.at.invariant_of-self-in_err-list_all c).After-note_all,
       c.self.invariant.3,
+      c.self.invariant.4,
     )
 
 pub returns-in_err-list_all-clause-err : goal.returns-in_err-list_all-clause-err
@@ -346,6 +351,7 @@ invariant_of-self-2 c =
           (stale_only_readied g (the_view i) covers risen.groups risen.some slots risen.waiting fresh made.fresh_are new puts
           c.args.risen.coded.items risen.coded risen.free one is))
           c.self.invariant.3,
+      tt,
     )
 
 pub returns-clause-wakes : goal.returns-clause-wakes

@@ -33,6 +33,7 @@ invariant_of-self-in_err-widen_for_parts c =
       c.make_room.ensures.same i.body.parts.items c.self.invariant.1,
       c.self.invariant.2,
       c.self.invariant.3,
+      c.self.invariant.4,
     )
 
 pub invariant_of-self-in_err-add : goal.invariant_of-self-in_err-add
@@ -47,6 +48,7 @@ invariant_of-self-in_err-add c =
       rw (ap (λ (uses : UsesData). length uses.known) c.in_err-add.ensures.err, ap (λ (uses : UsesData). uses.numbers) c.in_err-add.ensures.err)
           c.self.invariant.2,
       c.self.invariant.3,
+      c.self.invariant.4,
     )
 
 pub invariant_of-self-in_err-wait_more : goal.invariant_of-self-in_err-wait_more
@@ -61,6 +63,7 @@ invariant_of-self-in_err-wait_more c =
       rw c.add.ensures.known (AreLastTexts-same i.body.parts.items i.body.uses.numbers (length i.body.state.items) (length i.body.uses.known) i.body.last_texts c.self.invariant.2
           c.add.new.self.numbers i.body.last_texts (numbers_read i.body.uses c.add.new.self c.in_ok-add.ensures.ok) refl refl),
       c.self.invariant.3,
+      c.self.invariant.4,
     )
 
 pub invariant_of-self-2 : goal.invariant_of-self-2
@@ -98,6 +101,7 @@ invariant_of-self-2 c =
           e c.add.new.self.numbers (numbers_read i.body.uses c.add.new.self c.in_ok-add.ensures.ok)),
       holds_kept i.body.parts.items (i.body.parts.items ++ e ∷ []) i.body.state.items (vec_capacity i.body.noted) i.body.wide i.body.wide
           (KeepsKnown-seated i.body.parts.items e i.body.wide i.body.wide refl) c.self.invariant.3,
+      tt,
     )
 
 pub returns-clause-ok : goal.returns-clause-ok

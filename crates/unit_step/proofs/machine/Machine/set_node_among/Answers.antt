@@ -88,6 +88,7 @@ invariant_of-self c =
       subst (λ states. HoldsWide i.body.parts.items states (vec_capacity i.body.noted) c.place.new.wide) (sym state)
           (holds_placed c.args.node i.body.parts.items i.body.state.items _ _ i.body.wide c.place.new.wide (wide_placed at_end)
           (length-set i.body.state.items c.args.node c.args.value) c.self.invariant.3),
+      c.self.invariant.4,
     )
 
 pub returns : goal.returns

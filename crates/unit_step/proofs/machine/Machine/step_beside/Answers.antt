@@ -1,8 +1,9 @@
 -- A step of the machine beside a good run's, by its parts.
-use Rattle.std.proofs.Common.{◌≡◌, ◌≢◌, ℕ, [], List, length, refl, sym, ap, subst, ◌∙◌, arith}
+use Rattle.std.proofs.Common.{◌≡◌, ◌≢◌, ℕ, List, length, refl, sym, ap, subst, ◌∙◌, arith}
 use Rattle.std.specs.Bool.{OnTrue, OnFalse}
 use Rattle.std.specs.Prelude.{Option, vec_capacity}
 use Rattle.std.specs.Vec.{with_items}
+use Rattle.std.proofs.lemmas.Bool.{OnFalse_from, OnFalse_at}
 use Rattle.std.proofs.lemmas.List.{with_items_is}
 use Rattle.ternary.specs.declared.tern.Tern.{Tern}
 use Rattle.machine_parts.specs.declared.part.MachinePart.{MachinePart}
@@ -12,9 +13,12 @@ use Rattle.wide_groups.specs.Moving.{RetouchesIn}
 use Rattle.wide_groups.specs.Awake.{HoldsWide, IsWorked}
 use Rattle.part_steps.specs.Workspaces.{rooms}
 use Rattle.machine_laws.specs.Machines.{MachineData}
+use Rattle.run_beside.specs.Following.{IsWritten, FollowsAt}
+use Rattle.run_beside.specs.Near.{AreNearIn}
 use Rattle.run_beside.specs.Noticing.{KeepsApart}
 use Rattle.run_beside.specs.Stepping.{MovesBeside, RemarksBeside}
-use Rattle.unit_step.specs.Beside.{KeepsPartsApart}
+use Rattle.run_beside.proofs.WritingLemmas.{IsWritten-as}
+use Rattle.unit_step.specs.Beside.{FollowsByPart, KeepsPartsApart}
 use Rattle.unit_step.specs.LastTexts.{AreLastTexts}
 use Rattle.unit_step.proofs.BesideLemmas.{tables_apart, parts_apart}
 use Rattle.unit_step.proofs.machine.Machine.step_beside.Given.{Over}
@@ -29,7 +33,12 @@ advance_beside-requires g c =
     subst (λ (m : MachineData). (k : ℕ) → IsMarked m.marks k → IsMarked c.args.apart.now.inside k) (sym c.self.view_is) c.requires.marked in
     let kept : KeepsPartsApart i.body.parts.items c.args.apart.now.inside c.args.good.now i.body.state.items =
     subst (λ (m : MachineData). KeepsPartsApart m.parts c.args.apart.now.inside c.args.good.now m.state) (sym c.self.view_is) c.requires.kept in
-    rw (c.deref.ensures.value, c.deref-2.ensures.value, c.deref_mut.ensures.value) (record {
+    let count : length i.body.parts.items ≡ c.len.result = omega (arith, c.len.ensures, i.body.parts.ok.0) in
+    let known : AreNearIn i.body.parts.items c.deref.result.now i.body.near =
+    subst (λ owners. AreNearIn i.body.parts.items owners i.body.near) (sym c.deref.ensures.value) c.self.invariant.4 in
+    let near : AreNearIn i.body.parts.items i.body.owners.items c.know_near.new.near =
+    subst (λ owners. AreNearIn i.body.parts.items owners c.know_near.new.near) c.deref.ensures.value (c.know_near.ensures i.body.parts.items count known) in
+    rw (c.deref-2.ensures.value, c.deref-3.ensures.value, c.deref_mut.ensures.value) (record {
       dense = c.self.invariant.1;
       wide = c.self.invariant.3;
       runnable = runs;
@@ -41,6 +50,7 @@ advance_beside-requires g c =
       marked = marked;
       kept = tables_apart i.body.parts.items i.body.agenda.marks i.body.agenda.waiting (length i.body.state.items) i.body.readers (rooms i.body.workspace) runs
           i.body.owners.items c.self.invariant.0.own c.args.apart.now.inside c.args.good.now i.body.state.items kept;
+      near = near;
     })
 
 pub invariant_of-self : goal.invariant_of-self
@@ -56,12 +66,14 @@ invariant_of-self g c =
       c.self.invariant.1,
       subst (λ n. AreLastTexts i.body.parts.items i.body.uses.numbers n (length i.body.uses.known) i.body.last_texts) (sym nodes) c.self.invariant.2,
       subst (λ state. HoldsWide i.body.parts.items state (vec_capacity c.advance_beside.new.noted) c.advance_beside.new.wide) (sym final)
-          (subst (λ list. HoldsWide list n (vec_capacity c.advance_beside.new.noted) c.advance_beside.new.wide) c.deref.ensures.value step.holds),
+          (subst (λ list. HoldsWide list n (vec_capacity c.advance_beside.new.noted) c.advance_beside.new.wide) c.deref-2.ensures.value step.holds),
+      subst (λ owners. AreNearIn i.body.parts.items owners c.advance_beside.new.near) c.deref-3.ensures.value
+          (subst (λ parts. AreNearIn parts c.deref-3.result.now c.advance_beside.new.near) c.deref-2.ensures.value step.near),
     )
 
 -- what holds of the parts, the states that were handed in and those that came back holds of the machine's
 parts_are : (g : Over) (c : After-advance_beside g) (P : List MachinePart → List (Option ℕ) → List Tern → List Tern → Type 0) →
-    P c.deref.result.now c.deref-2.result.now c.deref_mut.result.now c.advance_beside.new.bad →
+    P c.deref-2.result.now c.deref-3.result.now c.deref_mut.result.now c.advance_beside.new.bad →
     P c.self.inside.body.parts.items c.self.inside.body.owners.items c.self.inside.body.state.items
     (with_items c.self.inside.body.state c.advance_beside.new.bad).items
 parts_are g c P holds =
@@ -69,8 +81,8 @@ parts_are g c P holds =
     let final = with_items_is i.body.state c.advance_beside.new.bad (omega (arith, c.advance_beside.auto.bad, c.deref_mut.ensures.len)) in
     subst (P i.body.parts.items i.body.owners.items i.body.state.items) (sym final)
     (subst (λ state. P i.body.parts.items i.body.owners.items state c.advance_beside.new.bad) c.deref_mut.ensures.value
-    (subst (λ owners. P i.body.parts.items owners c.deref_mut.result.now c.advance_beside.new.bad) c.deref-2.ensures.value
-    (subst (λ parts. P parts c.deref-2.result.now c.deref_mut.result.now c.advance_beside.new.bad) c.deref.ensures.value holds)))
+    (subst (λ owners. P i.body.parts.items owners c.deref_mut.result.now c.advance_beside.new.bad) c.deref-3.ensures.value
+    (subst (λ parts. P parts c.deref-3.result.now c.deref_mut.result.now c.advance_beside.new.bad) c.deref-2.ensures.value holds)))
 
 pub returns-clause-advances : goal.returns-clause-advances
 returns-clause-advances g c =
@@ -117,5 +129,15 @@ returns-clause-changed g c =
 
 pub returns-clause-same : goal.returns-clause-same
 returns-clause-same g c =
-    rw (← c.self.view_is) (parts_are g (goal.at.returns-clause-same g c).After-advance_beside
-    (λ parts owners old new. OnFalse c.advance_beside.result (c.args.changes.now ≡ [] → new ≡ old)) c.advance_beside.ensures.same)
+    let i = c.self.inside in
+    let own = c.self.invariant.0.own in
+    let apart = c.args.apart.now.inside in
+    let final = (with_items i.body.state c.advance_beside.new.bad).items in
+    let written = parts_are g (goal.at.returns-clause-same g c).After-advance_beside
+    (λ parts owners old new. OnFalse c.advance_beside.result (IsWritten (FollowsAt owners apart) c.args.changes.now old new)) c.advance_beside.ensures.same in
+    rw (← c.self.view_is) (OnFalse_from c.advance_beside.result
+    (IsWritten (FollowsByPart i.body.parts.items apart) c.args.changes.now i.body.state.items final) (λ unset.
+    IsWritten-as (FollowsAt i.body.owners.items apart) (FollowsByPart i.body.parts.items apart) c.args.changes.now i.body.state.items final
+    (λ node (k, owner, out). (k, own.member node k owner, out))
+    (λ node (k, has, out). (k, own.owner node k has, out))
+    (OnFalse_at unset written)))

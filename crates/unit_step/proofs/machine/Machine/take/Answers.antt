@@ -37,6 +37,7 @@ invariant_of-self g c =
       subst (λ n. AreLastTexts i.body.parts.items i.body.uses.numbers n (length i.body.uses.known) i.body.last_texts) (sym nodes) c.self.invariant.2,
       subst (λ state. HoldsWide i.body.parts.items state (vec_capacity c.advance-moved.new.noted) c.advance-moved.new.wide) (sym final)
           (subst (λ list. HoldsWide list n (vec_capacity c.advance-moved.new.noted) c.advance-moved.new.wide) c.deref.ensures.value step.holds),
+      c.self.invariant.4,
     )
 
 pub returns-clause-advances : goal.returns-clause-advances

@@ -75,6 +75,7 @@ invariant_of-self c =
       AreLastTexts-same i.body.parts.items i.body.uses.numbers (length i.body.state.items) (length i.body.uses.known) i.body.last_texts c.self.invariant.2 i.body.uses.numbers
           c.note.new.self (λ k. refl) (ap (λ (list : Vec (Option ℕ) Global). list.items) c.note.ensures.numbers) c.in_err-note.ensures.err,
       c.self.invariant.3,
+      c.self.invariant.4,
     )
 
 pub invariant_of-self-2 : goal.invariant_of-self-2
@@ -114,6 +115,7 @@ invariant_of-self-2 c =
       rw (c.free.ensures.numbers, c.free.ensures.known) last_texts,
       holds_kept i.body.parts.items (slice_set i.body.parts.items k e) i.body.state.items (vec_capacity i.body.noted) i.body.wide c.forget_with.new.wide
           (kept_known was e vacant c.forget_with.new.wide (forgot_in (goal.at.invariant_of-self-2 c).After-forget_with)) c.self.invariant.3,
+      tt,
     )
 
 pub returns-clause-ok : goal.returns-clause-ok
