@@ -3,8 +3,8 @@
 //! A good run goes over a graph, and a machine over the graph with a fault. `FitsBeside` says what the machine keeps: a part that
 //! isn't apart is that of a group that stands alike in both graphs, and nothing differs that concerns it; a part that is apart is
 //! marked or rests. By the law `StepsFitBeside` a step of the machine beside a step of the good run is a step of the fault's
-//! graph, and the machine fits beside the good run again. The layer above uses `settle_beside`: it takes a phase beside the one
-//! of a record, and the run under a fault settled (`SettlesBeside`), whatever the number of its steps.
+//! graph, and the machine fits beside the good run again. The layer above uses it, and the laws `PlacingFitsBeside` and
+//! `GoingBackFitsBeside`, to take phases beside those of a record (`IsPhaseOf` says which of its steps are a phase).
 //!
 //! ```text
 //! an inverter a -> out whose switch to vdd is open: its part is apart, and marked; all others follow
@@ -16,9 +16,7 @@
 #![tactic(auto)]
 
 mod laws;
-mod phases;
 mod placing;
 
 pub use laws::{machines_fit_beside, steps_fit_beside};
-pub use phases::settle_beside;
-pub use placing::{go_back, place_beside, put_apart};
+pub use placing::{go_back, put_all, put_apart};

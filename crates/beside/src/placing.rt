@@ -1,42 +1,14 @@
-//! Placing a node in both runs, and parts that go back.
-ghost use Rattle.std.specs.Prelude.{◌≡◌, ℕ, ◌<◌, ◌≤◌, Some, length, slice_set, Contains};
+//! Parts that are put apart, and parts that go back.
+ghost use Rattle.std.specs.Prelude.{◌≡◌, ℕ, ◌<◌, Some, length, Contains};
 ghost use Rattle.std.specs.Bool.{OnFalse};
-ghost use Rattle.switch_paths.specs.declared.TheConstants.{RAILS};
 ghost use Rattle.machine_parts.specs.Marking.{MarksAll};
-ghost use Rattle.beside.specs.Fitting.{FitsBeside};
 ghost use Rattle.beside.specs.Laws.{GoBack, PutsApart};
 ghost use Rattle.beside.specs.Returning.{GoesBack, MayGoBack};
 
 use std::mem::swap;
-use switch_paths::{Graph, graphs_are_wired};
 use ternary::Tern;
 use unit_step::Machine;
 use vicinity::NodeSet;
-
-/// Places a node that is no rail in both runs: in the good one at its value, and under the fault at another one, if it is stuck
-/// there. The parts that it concerns are apart afterwards, and marked. It takes no memory.
-pub fn place_beside(
-    machine: &mut Machine,
-    good_graph: &Graph,
-    graph: &Graph,
-    node: usize,
-    value: Tern,
-    bad_value: Tern,
-    good: &mut [Tern],
-    apart: &mut NodeSet,
-)
-    requires fits { FitsBeside good_graph.now graph.now good.old apart.old.inside machine.old }
-    requires inside { node < length machine.old.state }
-    requires no_rail { RAILS ≤ node }
-    ensures fits { FitsBeside good_graph.now graph.now good.new apart.new.inside machine.new }
-    ensures good { good.new ≡ slice_set good.old node value }
-    ensures state { machine.new.state ≡ slice_set machine.old.state node bad_value }
-{
-    graphs_are_wired(graph);
-    put_apart(machine, node, apart);
-    good[node] = value;
-    machine.set_node(graph, node, bad_value);
-}
 
 /// Puts the parts apart that a node concerns.
 pub fn put_apart(machine: &Machine, node: usize, apart: &mut NodeSet)
@@ -58,8 +30,8 @@ fn put_owner(owner: Option<usize>, apart: &mut NodeSet)
     }
 }
 
-// Puts all of these parts in.
-fn put_all(parts: &[usize], apart: &mut NodeSet)
+/// Puts all of these parts in.
+pub fn put_all(parts: &[usize], apart: &mut NodeSet)
     requires { (k : ℕ) → Contains parts.now k → k < length apart.old.inside }
     ensures { MarksAll (Contains parts.now) apart.old.inside apart.new.inside }
 {

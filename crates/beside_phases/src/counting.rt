@@ -27,7 +27,7 @@ use vicinity::NodeSet;
 /// the steps that change the state under the fault, and shows the state behind each of them.
 ///
 /// Both runs take as many replacements as the longer one wants, plain ones up to the limit and then joining ones: a run that is
-/// at rest stays. It takes no memory, but works in a list of as many states as there are nodes.
+/// at rest stays. It takes no memory.
 ///
 /// After Bryant and Schuster, "Performance Evaluation of FMOSSIM, a Concurrent Switch-Level Fault
 /// Simulator", 1985.
@@ -41,7 +41,6 @@ pub fn settle_counted<O: Onlooker, L: Ledger>(
     limit: u64,
     good: &mut [Tern],
     apart: &mut NodeSet,
-    before: &mut [Tern],
     steps: &mut Steps<L>,
     onlooker: &mut O,
 ) -> Settled
@@ -49,19 +48,17 @@ pub fn settle_counted<O: Onlooker, L: Ledger>(
     requires phase { IsPhaseOf good_graph.now limit run.now first end }
     requires begins { good.old ≡ state_before run.now first }
     requires few { (end - first) + limit + length machine.old.state < 2 ^ 62 }
-    requires room { length before.old ≡ length machine.old.state }
     requires knows { O.knows onlooker.old machine.old.state }
     ensures settles { SettlesSeen O.see good_graph.now graph.now limit result.steps result.joined machine.old machine.new good.new apart.new.inside (O.seen onlooker.old) (O.seen onlooker.new) }
     ensures ends { good.new ≡ state_before run.now end }
-    ensures room { length before.new ≡ length before.old }
     ensures knows { O.knows onlooker.new machine.new.state }
 {
     let moved = replay(
-        machine, good_graph, graph, run, first, end, limit, good, apart, before, steps, onlooker,
+        machine, good_graph, graph, run, first, end, limit, good, apart, steps, onlooker,
     );
     let all = looks_between(first, end);
     let count = rest_or_go_on(
-        machine, good_graph, graph, moved, all, limit, good, apart, before, steps, onlooker,
+        machine, good_graph, graph, moved, all, limit, good, apart, steps, onlooker,
     );
     settled(count, limit)
 }
@@ -96,18 +93,15 @@ fn replay<O: Onlooker, L: Ledger>(
     limit: u64,
     good: &mut [Tern],
     apart: &mut NodeSet,
-    before: &mut [Tern],
     steps: &mut Steps<L>,
     onlooker: &mut O,
 ) -> u64
     requires fits { FitsBeside good_graph.now graph.now good.old apart.old.inside machine.old }
     requires phase { IsPhaseOf good_graph.now limit run.now first end }
     requires begins { good.old ≡ state_before run.now first }
-    requires room { length before.old ≡ length machine.old.state }
     requires knows { O.knows onlooker.old machine.old.state }
     ensures counts { CountsBeside O.see good_graph.now graph.now limit (end - first) result machine.old machine.new good.new apart.new.inside (O.seen onlooker.old) (O.seen onlooker.new) }
     ensures ends { good.new ≡ state_before run.now end }
-    ensures room { length before.new ≡ length before.old }
     ensures knows { O.knows onlooker.new machine.new.state }
 {
     graphs_are_wired(good_graph);
@@ -116,9 +110,7 @@ fn replay<O: Onlooker, L: Ledger>(
     for at in first..end {
         let joining = is_joining(looks_between(first, at), limit);
         let changes = run.changes_at(at);
-        let changed = step_seen(
-            machine, joining, changes, good, apart, before, steps, onlooker,
-        );
+        let changed = step_seen(machine, joining, changes, good, apart, steps, onlooker);
         moved = one_more_if(moved, changed, end);
     }
     moved as u64
@@ -153,7 +145,6 @@ fn rest_or_go_on<O: Onlooker, L: Ledger>(
     limit: u64,
     good: &mut [Tern],
     apart: &mut NodeSet,
-    before: &mut [Tern],
     steps: &mut Steps<L>,
     onlooker: &mut O,
 ) -> u64
@@ -162,18 +153,16 @@ fn rest_or_go_on<O: Onlooker, L: Ledger>(
     requires rests { moved < all → IsReplacement graph.now limit moved machine.old.state machine.old.state }
     requires stays { (n : ℕ) → all ≤ n → IsReplacement good_graph.now limit n good.old good.old }
     requires few { all + limit + length machine.old.state < 2 ^ 62 }
-    requires room { length before.old ≡ length machine.old.state }
     requires knows { O.knows onlooker.old machine.old.state }
     ensures rests { ComesToRest O.see good_graph.now graph.now limit moved result machine.old machine.new good.new apart.new.inside (O.seen onlooker.old) (O.seen onlooker.new) }
     ensures good { good.new ≡ good.old }
-    ensures room { length before.new ≡ length before.old }
     ensures knows { O.knows onlooker.new machine.new.state }
 {
     if moved < all {
         return moved;
     }
     go_on(
-        machine, good_graph, graph, moved, limit, good, apart, before, steps, onlooker,
+        machine, good_graph, graph, moved, limit, good, apart, steps, onlooker,
     )
 }
 
@@ -187,18 +176,15 @@ fn go_on<O: Onlooker, L: Ledger>(
     limit: u64,
     good: &mut [Tern],
     apart: &mut NodeSet,
-    before: &mut [Tern],
     steps: &mut Steps<L>,
     onlooker: &mut O,
 ) -> u64
     requires fits { FitsBeside good_graph.now graph.now good.old apart.old.inside machine.old }
     requires stays { (n : ℕ) → taken ≤ n → IsReplacement good_graph.now limit n good.old good.old }
     requires few { taken + limit + length machine.old.state < 2 ^ 62 }
-    requires room { length before.old ≡ length machine.old.state }
     requires knows { O.knows onlooker.old machine.old.state }
     ensures rests { ComesToRest O.see good_graph.now graph.now limit taken result machine.old machine.new good.new apart.new.inside (O.seen onlooker.old) (O.seen onlooker.new) }
     ensures good { good.new ≡ good.old }
-    ensures room { length before.new ≡ length before.old }
     ensures knows { O.knows onlooker.new machine.new.state }
 {
     graphs_are_wired(good_graph);
@@ -210,7 +196,6 @@ fn go_on<O: Onlooker, L: Ledger>(
         &[],
         good,
         apart,
-        before,
         steps,
         onlooker,
     ) {
@@ -226,7 +211,6 @@ fn step_seen<O: Onlooker, L: Ledger>(
     changes: &[Change],
     good: &mut [Tern],
     apart: &mut NodeSet,
-    before: &mut [Tern],
     steps: &mut Steps<L>,
     onlooker: &mut O,
 ) -> bool
@@ -236,7 +220,6 @@ fn step_seen<O: Onlooker, L: Ledger>(
     requires apart { length apart.old.inside ≡ length machine.old.parts }
     requires marked { (k : ℕ) → IsMarked machine.old.marks k → IsMarked apart.old.inside k }
     requires kept { KeepsPartsApart machine.old.parts apart.old.inside good.old machine.old.state }
-    requires room { length before.old ≡ length machine.old.state }
     requires knows { O.knows onlooker.old machine.old.state }
     ensures good { IsTaken changes.now good.old good.new }
     ensures advances { AdvancesBeside joining changes.now apart.old.inside apart.new.inside machine.old machine.new }
@@ -245,10 +228,9 @@ fn step_seen<O: Onlooker, L: Ledger>(
     ensures same { OnFalse result (machine.new.state ≡ machine.old.state) }
     ensures seen { OnTrue result (O.seen onlooker.new ≡ O.see (O.seen onlooker.old) machine.new.state) }
     ensures unseen { OnFalse result (O.seen onlooker.new ≡ O.seen onlooker.old) }
-    ensures room { length before.new ≡ length before.old }
     ensures knows { O.knows onlooker.new machine.new.state }
 {
-    if !step_counted(machine, joining, changes, good, apart, before, steps) {
+    if !step_counted(machine, joining, changes, good, apart, steps) {
         return false;
     }
     let mut changed = None;
@@ -260,6 +242,7 @@ fn step_seen<O: Onlooker, L: Ledger>(
 pub fn show<O: Onlooker>(machine: &mut Machine, changed: &mut Option<Vec<usize>>, onlooker: &mut O)
     requires { (old : List Tern) × O.knows onlooker.old old × ListsChanges (nodes_told changed.old (length machine.old.state)) old machine.old.state }
     ensures same { machine.new ≡ machine.old }
+    ensures list { changed.new ≡ changed.old }
     ensures seen { O.seen onlooker.new ≡ O.see (O.seen onlooker.old) machine.old.state }
     ensures knows { O.knows onlooker.new machine.old.state }
 {
@@ -273,7 +256,6 @@ fn step_counted<L: Ledger>(
     changes: &[Change],
     good: &mut [Tern],
     apart: &mut NodeSet,
-    before: &mut [Tern],
     steps: &mut Steps<L>,
 ) -> bool
     requires counted { length good.old ≡ length machine.old.state }
@@ -282,18 +264,16 @@ fn step_counted<L: Ledger>(
     requires apart { length apart.old.inside ≡ length machine.old.parts }
     requires marked { (k : ℕ) → IsMarked machine.old.marks k → IsMarked apart.old.inside k }
     requires kept { KeepsPartsApart machine.old.parts apart.old.inside good.old machine.old.state }
-    requires room { length before.old ≡ length machine.old.state }
     ensures good { IsTaken changes.now good.old good.new }
     ensures advances { AdvancesBeside joining changes.now apart.old.inside apart.new.inside machine.old machine.new }
     ensures kept { KeepsPartsApart machine.new.parts apart.new.inside good.new machine.new.state }
     ensures changed { OnTrue result (machine.new.state ≢ machine.old.state) }
     ensures same { OnFalse result (machine.new.state ≡ machine.old.state) }
-    ensures room { length before.new ≡ length before.old }
 {
     if some_follows(machine, changes, good, apart) {
         return step_following(machine, joining, changes, good, apart, steps);
     }
-    step_compared(machine, joining, changes, good, apart, before, steps)
+    machine.step_beside(joining, changes, good, apart, steps)
 }
 
 // Takes a step beside the good run's in which a node follows that changes: so the state under the fault changes.
@@ -322,65 +302,13 @@ fn step_following<L: Ledger>(
     true
 }
 
-// Takes a step beside the good run's. If no part that is apart changed a node, the states are compared.
-fn step_compared<L: Ledger>(
-    machine: &mut Machine,
-    joining: bool,
-    changes: &[Change],
-    good: &mut [Tern],
-    apart: &mut NodeSet,
-    before: &mut [Tern],
-    steps: &mut Steps<L>,
-) -> bool
-    requires counted { length good.old ≡ length machine.old.state }
-    requires inside { (change : Change) → Contains changes.now change → change.node < length good.old }
-    requires agreed { AreAgreed changes.now }
-    requires apart { length apart.old.inside ≡ length machine.old.parts }
-    requires marked { (k : ℕ) → IsMarked machine.old.marks k → IsMarked apart.old.inside k }
-    requires kept { KeepsPartsApart machine.old.parts apart.old.inside good.old machine.old.state }
-    requires room { length before.old ≡ length machine.old.state }
-    ensures good { IsTaken changes.now good.old good.new }
-    ensures advances { AdvancesBeside joining changes.now apart.old.inside apart.new.inside machine.old machine.new }
-    ensures kept { KeepsPartsApart machine.new.parts apart.new.inside good.new machine.new.state }
-    ensures changed { OnTrue result (machine.new.state ≢ machine.old.state) }
-    ensures same { OnFalse result (machine.new.state ≡ machine.old.state) }
-    ensures room { length before.new ≡ length before.old }
-{
-    before.copy_from_slice(machine.state());
-    if machine.step_beside(joining, changes, good, apart, steps) {
-        return true;
-    }
-    if has_none(changes) {
-        return false;
-    }
-    differ(machine.state(), before)
-}
-
-// Whether there are no changes.
-fn has_none(changes: &[Change]) -> bool
-    ensures { OnTrue result (changes.now ≡ []) }
-{
-    let count = changes.len();
-    if count == 0 {
-        return true;
-    }
-    false
-}
-
-// Whether two states differ.
-fn differ(one: &[Tern], other: &[Tern]) -> bool
-    ensures changed { OnTrue result (one.now ≢ other.now) }
-    ensures same { OnFalse result (one.now ≡ other.now) }
-{
-    one != other
-}
-
 // Whether a node of these changes follows the good run and changes in it.
 fn some_follows(machine: &Machine, changes: &[Change], good: &[Tern], apart: &NodeSet) -> bool
     requires inside { (change : Change) → Contains changes.now change → change.node < length good.now }
     requires counted { length good.now ≡ length machine.now.state }
     requires apart { length apart.now.inside ≡ length machine.now.parts }
-    ensures { OnTrue result (SomeFollows changes.now machine.now.parts apart.now.inside good.now) }
+    ensures yes { OnTrue result (SomeFollows changes.now machine.now.parts apart.now.inside good.now) }
+    ensures no { OnFalse result (¬ SomeFollows changes.now machine.now.parts apart.now.inside good.now) }
 {
     for change in changes {
         if follows(machine, change, good, apart) {
@@ -395,7 +323,8 @@ fn follows(machine: &Machine, change: &Change, good: &[Tern], apart: &NodeSet) -
     requires inside { change.now.node < length good.now }
     requires counted { length good.now ≡ length machine.now.state }
     requires apart { length apart.now.inside ≡ length machine.now.parts }
-    ensures { OnTrue result (FollowsOne change.now machine.now.parts apart.now.inside good.now) }
+    ensures yes { OnTrue result (FollowsOne change.now machine.now.parts apart.now.inside good.now) }
+    ensures no { OnFalse result (¬ FollowsOne change.now machine.now.parts apart.now.inside good.now) }
 {
     let Some(k) = machine.owner_at(change.node) else {
         return false;
@@ -409,7 +338,8 @@ fn follows(machine: &Machine, change: &Change, good: &[Tern], apart: &NodeSet) -
 // Whether a change gives its node another state than the good run's.
 fn changes_good(change: &Change, good: &[Tern]) -> bool
     requires { change.now.node < length good.now }
-    ensures { OnTrue result (state_at good.now change.now.node ≢ change.now.value) }
+    ensures yes { OnTrue result (state_at good.now change.now.node ≢ change.now.value) }
+    ensures no { OnFalse result (state_at good.now change.now.node ≡ change.now.value) }
 {
     good[change.node] != change.value
 }

@@ -1,9 +1,11 @@
 //! Steps of a machine that are noted and shown.
 ghost use Rattle.std.specs.Prelude.{◌≡◌, ◌≢◌, ◌+◌, ◌^◌, ◌<◌, None, true, false, length};
 ghost use Rattle.std.specs.Bool.{OnTrue, OnFalse};
+ghost use Rattle.settling.specs.Moved.{ListsChanges};
 ghost use Rattle.good_run.specs.Words.{look_at};
 ghost use Rattle.machine_laws.specs.Fitting.{FitsGraph};
 ghost use Rattle.run_beside.specs.Words.{IsMove};
+ghost use Rattle.unit_step.specs.Listing.{nodes_told};
 ghost use Rattle.good_phases.specs.Phases.{SettlesNoted};
 
 use beside_phases::{is_joining, settled, show};
@@ -28,7 +30,8 @@ pub(crate) fn note_begin(
     run.begin(&Watched { machine, changed });
 }
 
-/// Settles a machine that fits the graph, notes each state that it passes through, and shows it.
+/// Settles a machine that fits the graph, notes each state that it passes through, and shows it. Behind a step those nodes alone are looked at
+/// that it changed, unless memory lacks for their list.
 pub(crate) fn settle_noted<O: Onlooker, L: Ledger>(
     machine: &mut Machine,
     graph: &Graph,
@@ -45,11 +48,13 @@ pub(crate) fn settle_noted<O: Onlooker, L: Ledger>(
     ensures known { run.new.known ≡ machine.new.state }
     ensures knows { O.knows onlooker.new machine.new.state }
 {
+    let mut changed = machine.listing(true);
     let mut count: u64 = 0;
     while step_noted(
         machine,
         graph,
         is_joining(count, limit),
+        &mut changed,
         run,
         steps,
         onlooker,
@@ -64,6 +69,7 @@ fn step_noted<O: Onlooker, L: Ledger>(
     machine: &mut Machine,
     graph: &Graph,
     joining: bool,
+    changed: &mut Option<Vec<usize>>,
     run: &mut Recorder,
     steps: &mut Steps<L>,
     onlooker: &mut O,
@@ -83,33 +89,32 @@ fn step_noted<O: Onlooker, L: Ledger>(
     ensures known { run.new.known ≡ machine.new.state }
     ensures knows { O.knows onlooker.new machine.new.state }
 {
-    if !step_of(machine, graph, joining, steps) {
+    if !step_of(machine, graph, joining, changed, steps) {
         return false;
     }
-    let mut changed = None;
-    show(machine, &mut changed, run);
-    let mut again = None;
-    show(machine, &mut again, onlooker);
+    show(machine, changed, run);
+    show(machine, changed, onlooker);
     true
 }
 
-// Takes a step, plain or joining, and answers whether it changed something.
+// Takes a step, plain or joining, lists the nodes that it changed, if there is a list, and answers whether it changed something.
 fn step_of<L: Ledger>(
     machine: &mut Machine,
     graph: &Graph,
     joining: bool,
+    changed: &mut Option<Vec<usize>>,
     steps: &mut Steps<L>,
 ) -> bool
     requires { FitsGraph graph.now machine.old }
     ensures fits { FitsGraph graph.now machine.new }
     ensures last { machine.new.last ≡ machine.old.last }
-    ensures count { length machine.new.state ≡ length machine.old.state }
+    ensures listed { ListsChanges (nodes_told changed.new (length machine.new.state)) machine.old.state machine.new.state }
     ensures moves { IsMove joining graph.now machine.old.state machine.new.state }
     ensures changed { OnTrue result (machine.new.state ≢ machine.old.state) }
     ensures same { OnFalse result (machine.new.state ≡ machine.old.state) }
 {
     if joining {
-        return machine.join_step_listed(graph, steps, &mut None);
+        return machine.join_step_listed(graph, steps, changed);
     }
-    machine.step_listed(graph, steps, &mut None)
+    machine.step_listed(graph, steps, changed)
 }

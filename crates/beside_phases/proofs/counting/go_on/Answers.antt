@@ -17,7 +17,6 @@ loop-count-init g c = record {
       c.args.apart.now.inside (g.O.Observer.seen c.args.onlooker.now) c.requires.fits;
   low = omega arith;
   same = refl;
-  room = refl;
   bound = omega arith;
   knows = c.requires.knows;
 }
@@ -32,7 +31,6 @@ step_seen-requires g c =
       apart = fits.apart_counted;
       marked = fits.only;
       kept = fits.kept;
-      room = omega (arith, c.loop-count.invariant.room, c.requires.room, fits.fits.covers.counted, c.requires.fits.fits.covers.counted);
       knows = c.loop-count.invariant.knows;
     }
 
@@ -81,7 +79,6 @@ loop-count-preserved g c =
           (OnTrue_at c.loop-count-test.true c.step_seen.ensures.seen);
       low = omega (arith, inv.low);
       same = taken_none c.loop-count.good c.step_seen.new.good c.step_seen.ensures.good ∙ inv.same;
-      room = c.step_seen.ensures.room ∙ inv.room;
       bound = omega (arith, inv.bound, falls);
       knows = c.step_seen.ensures.knows;
     }
@@ -105,6 +102,3 @@ returns-clause-rests g c =
 
 pub returns-clause-good : goal.returns-clause-good
 returns-clause-good g c = taken_none c.loop-count.good c.step_seen.new.good c.step_seen.ensures.good ∙ c.loop-count.invariant.same
-
-pub returns-clause-room : goal.returns-clause-room
-returns-clause-room g c = c.step_seen.ensures.room ∙ c.loop-count.invariant.room

@@ -1,5 +1,5 @@
 -- So many replacements were taken, each of the last of which changed something; the good run stays.
-use Rattle.std.proofs.Common.{◌≡◌, ◌+◌, ◌≤◌, length}
+use Rattle.std.proofs.Common.{◌≡◌, ◌+◌, ◌≤◌}
 use Rattle.beside_phases.specs.Counting.{PassesBeside}
 use Rattle.beside_phases.proofs.WorkLemmas.{work_left}
 use Rattle.beside_phases.proofs.counting.go_on.Given as goal
@@ -10,7 +10,6 @@ invariant-loop-count g l = record {
       (g.O.Observer.seen l.fn.onlooker) (g.O.Observer.seen l.onlooker);
   low : l.taken ≤ l.count;
   same : l.good ≡ l.fn.good;
-  room : length l.before ≡ length l.fn.before;
   bound : l.count + work_left l.limit l.count l.machine.state ≤ l.taken + work_left l.limit l.taken l.fn.machine.state;
   knows : g.O.Observer.knows l.onlooker l.machine.state;
 }

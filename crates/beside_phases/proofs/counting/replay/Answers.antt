@@ -1,5 +1,5 @@
 -- A step of the good run's phase more.
-use Rattle.std.proofs.Common.{◌≡◌, ◌+◌, ◌-◌, ◌<◌, not, nat_lt, refl, sym, ap, subst, ◌∙◌, arith}
+use Rattle.std.proofs.Common.{◌≡◌, ◌+◌, ◌-◌, ◌<◌, not, nat_lt, sym, ap, subst, ◌∙◌, arith}
 use Rattle.machine_parts.specs.Running.{IsTaken}
 use Rattle.good_run.specs.Recording.{state_before}
 use Rattle.run_beside.specs.Agreeing.{IsMove}
@@ -21,7 +21,6 @@ loop-at-init g c =
       low = omega arith;
       high = c.requires.phase.ordered;
       here = c.requires.begins;
-      room = refl;
       knows = c.requires.knows;
     }
 
@@ -45,7 +44,6 @@ step_seen-changed-requires g c =
       apart = fits.apart_counted;
       marked = fits.only;
       kept = fits.kept;
-      room = omega (arith, c.loop-at.invariant.room, c.requires.room, fits.fits.covers.counted, c.requires.fits.fits.covers.counted);
       knows = c.loop-at.invariant.knows;
     }
 
@@ -92,7 +90,6 @@ loop-at-preserved g c =
       low = omega (arith, inv.low);
       high = omega (arith, c.loop-at-test.true);
       here = same;
-      room = step.ensures.room ∙ inv.room;
       knows = step.ensures.knows;
     }
 
@@ -107,9 +104,6 @@ pub returns-clause-ends : goal.returns-clause-ends
 returns-clause-ends g c =
     let all : c.loop-at.at ≡ c.args.end = omega (arith, c.loop-at.invariant.high, c.loop-at-test.false) in
     c.loop-at.invariant.here ∙ ap (state_before c.args.run.now) all
-
-pub returns-clause-room : goal.returns-clause-room
-returns-clause-room g c = c.loop-at.invariant.room
 
 pub returns-clause-knows : goal.returns-clause-knows
 returns-clause-knows g c = c.loop-at.invariant.knows

@@ -1,5 +1,5 @@
 -- So many steps of the good run's phase were taken in both runs, and those that changed something are counted.
-use Rattle.std.proofs.Common.{◌≡◌, ◌-◌, ◌≤◌, length}
+use Rattle.std.proofs.Common.{◌≡◌, ◌-◌, ◌≤◌}
 use Rattle.good_run.specs.Recording.{state_before}
 use Rattle.beside_phases.specs.Counting.{CountsBeside}
 use Rattle.beside_phases.proofs.counting.replay.Given as goal
@@ -11,6 +11,5 @@ invariant-loop-at g l = record {
   low : l.first ≤ l.at;
   high : l.at ≤ l.end;
   here : l.good ≡ state_before l.run l.at;
-  room : length l.before ≡ length l.fn.before;
   knows : g.O.Observer.knows l.onlooker l.machine.state;
 }

@@ -19,7 +19,6 @@ rest_or_go_on-count-requires g c =
           subst (λ state. IsReplacement c.args.good_graph.now c.args.limit n state state) (sym c.replay-moved.ensures.ends)
           (c.requires.phase.stays n (omega (arith, most, all)));
       few = omega (arith, c.requires.few, all, counts.passes.fits.fits.covers.counted, c.requires.fits.fits.covers.counted);
-      room = omega (arith, c.replay-moved.ensures.room, c.requires.room, counts.passes.fits.fits.covers.counted, c.requires.fits.fits.covers.counted);
       knows = c.replay-moved.ensures.knows;
     }
 
@@ -40,6 +39,3 @@ returns-clause-settles g c =
 
 pub returns-clause-ends : goal.returns-clause-ends
 returns-clause-ends g c = c.rest_or_go_on-count.ensures.good ∙ c.replay-moved.ensures.ends
-
-pub returns-clause-room : goal.returns-clause-room
-returns-clause-room g c = c.rest_or_go_on-count.ensures.room ∙ c.replay-moved.ensures.room

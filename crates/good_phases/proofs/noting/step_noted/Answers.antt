@@ -1,12 +1,13 @@
 -- A step that changed something is noted and shown.
 use Rattle.std.proofs.Common.{◌≡◌, false, length, ap, sym, subst, ◌∙◌}
 use Rattle.std.proofs.lemmas.Bool.{OnTrue_at, OnFalse_at}
-use Rattle.settling.proofs.NumbersLemmas.{listed_after}
+use Rattle.settling.specs.Moved.{ListsChanges}
 use Rattle.machine_laws.specs.Machines.{MachineData}
 use Rattle.machine_laws.specs.Fitting.{FitsGraph}
 use Rattle.good_run.specs.Recording.{RunData, look_at}
 use Rattle.good_run.proofs.RecordLemmas.{look_known}
 use Rattle.run_beside.specs.Agreeing.{IsMove}
+use Rattle.unit_step.specs.Listing.{nodes_told}
 use Rattle.good_phases.proofs.noting.step_noted.Given.{Over}
 use Rattle.good_phases.proofs.noting.step_noted.Goals.{After-show-2}
 use Rattle.good_phases.proofs.noting.step_noted.Goals as goal
@@ -22,13 +23,14 @@ returns-then-not-step_of-clause-knows g c =
     subst (g.O.Observer.knows c.args.onlooker.now) (sym (OnFalse_at c.if-not-step_of.true c.step_of.ensures.same)) c.requires.knows
 
 pub show-requires : goal.show-requires
-show-requires g c =
-    (c.args.machine.now.state, c.requires.known, listed_after c.args.machine.now.state c.step_of.new.machine.state c.step_of.ensures.count)
+show-requires g c = (c.args.machine.now.state, c.requires.known, c.step_of.ensures.listed)
 
 pub show-requires-2 : goal.show-requires-2
 show-requires-2 g c =
-    let same = ap (λ (m : MachineData). m.state) c.show.ensures.same in
-    (c.args.machine.now.state, c.requires.knows, listed_after c.args.machine.now.state c.show.new.machine.state (ap length same ∙ c.step_of.ensures.count))
+    let old = c.args.machine.now.state in
+    let list = subst (λ told. ListsChanges (nodes_told told (length c.step_of.new.machine.state)) old c.step_of.new.machine.state) (sym c.show.ensures.list)
+    c.step_of.ensures.listed in
+    (old, c.requires.knows, subst (λ (m : MachineData). ListsChanges (nodes_told c.show.new.changed (length m.state)) old m.state) (sym c.show.ensures.same) list)
 
 -- the machine is the one behind the step
 same_machine : (g : Over) (c : After-show-2 g) → c.show-2.new.machine ≡ c.step_of.new.machine
