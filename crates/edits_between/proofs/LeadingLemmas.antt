@@ -1,5 +1,5 @@
 -- What an edit leaves of a machine, and several edits.
-use Rattle.std.proofs.Common.{◌≡◌, ℕ, ◌-◌, ◌++◌, inl, inr, ◌⊎◌, Bool, true, false, List, length, take, replicate, None, Some, refl, sym, ap, subst, ◌∙◌, arith}
+use Rattle.std.proofs.Common.{◌≡◌, ℕ, ◌-◌, ◌≤◌, ◌++◌, inl, inr, ◌⊎◌, Bool, true, false, List, length, take, replicate, None, Some, refl, sym, ap, subst, ◌∙◌, arith}
 use Rattle.std.specs.Prelude.{IfSome, Option, slice_set}
 use Rattle.std.proofs.Math.Seq.{take-length}
 use Rattle.std.proofs.lemmas.List.{append-nil, length-set, set-get_or, set-set}
@@ -15,7 +15,7 @@ use Rattle.machine_laws.specs.Fitting.{Covers}
 use Rattle.machine_laws.specs.Editing.{Edits, is_touched_in}
 use Rattle.machine_laws.proofs.AlikeParts.{alike_groups_keep_their_parts}
 use Rattle.machine_laws.proofs.KeptLemmas.{edits_keep_texts, untouched_alike}
-use Rattle.edits_between.specs.Leading.{CodedAreAlike, IsAsLarge, Led, LedBy, LedIn, last_in}
+use Rattle.edits_between.specs.Leading.{CodedAreAlike, EarlyAreAlike, HasParts, IsAsLarge, Led, LedBy, LedIn, last_in}
 
 -- ---- groups that stand alike
 
@@ -54,6 +54,17 @@ module _ (g : GraphData) (change : Change) (old new : MachineData) (wired_before
             alike_then base (undo g change) g group (alike k part (edits.stays k part group stands is_part untouched) coded group was_part) here
       ]
 
+  -- and so are those that were there before
+  early_stays : (base : GraphData) (count : ℕ) → count ≤ length old.parts → EarlyAreAlike base count (undo g change) old → EarlyAreAlike base count g new
+  early_stays base count most alike k part stands below group is_part =
+      elim (touched_or_not (is_touched_in g change old group)) [
+        | inl touched ↦ absurd (omega (arith, edits.later k part group stands is_part touched, below, most))
+        | inr untouched ↦
+            let here = untouched_alike g change old new wired_before wired covers edits group is_part.is_group untouched in
+            let was_part = alike_groups_keep_their_parts g (undo g change) group part wired wired_before (alike_back (undo g change) g group here) is_part in
+            alike_then base (undo g change) g group (alike k part (edits.stays k part group stands is_part untouched) below group was_part) here
+      ]
+
   -- the states stay, if there is no new node
   state_stays : nodes g ≡ nodes (undo g change) → new.state ≡ old.state
   state_stays same =
@@ -68,12 +79,22 @@ module _ (g : GraphData) (change : Change) (old new : MachineData) (wired_before
     state = state_stays same;
     known = λ kept known. edits_keep_texts g change kept old new wired_before wired covers edits known;
     alike = coded_stays;
+    more = edits.count;
+    early = early_stays;
   }
 
 -- ---- several
 
 led_none : (g : GraphData) (m : MachineData) → Covers g m → Led g g m m
-led_none g m covers = record { covers = covers; last = refl; state = refl; known = λ kept known. known; alike = λ base alike. alike }
+led_none g m covers = record {
+  covers = covers;
+  last = refl;
+  state = refl;
+  known = λ kept known. known;
+  alike = λ base alike. alike;
+  more = omega (arith);
+  early = λ base count most alike. alike;
+}
 
 led_then : (f g h : GraphData) (old mid new : MachineData) → Led f g old mid → Led g h mid new → Led f h old new
 led_then f g h old mid new one two = record {
@@ -82,6 +103,8 @@ led_then f g h old mid new one two = record {
   state = two.state ∙ one.state;
   known = λ kept known. two.known kept (one.known kept known);
   alike = λ base alike. two.alike base (one.alike base alike);
+  more = omega (arith, one.more, two.more);
+  early = λ base count most alike. two.early base count (omega (arith, most, one.more)) (one.early base count most alike);
 }
 
 pub led_in_none : (g : GraphData) (slot : Option MachineData) → IfSome slot (Covers g) → LedIn g g slot slot
@@ -117,10 +140,26 @@ coded_there : (g h : GraphData) (mid new : Option MachineData) → LedIn g h mid
 coded_there g h None new led = subst (λ slot. IfSome slot (CodedAreAlike g h)) (sym led) tt
 coded_there g h (Some mid) new (m, is, led) = subst (λ slot. IfSome slot (CodedAreAlike g h)) (sym is) (led.alike g (coded_here g mid))
 
+-- and so do those of the parts that it had there
+early_here : (g : GraphData) (count : ℕ) (m : MachineData) → EarlyAreAlike g count g m
+early_here g count m k part stands below group is_part = record {
+  here = is_part.is_group;
+  there = is_part.is_group;
+  places = λ place inside. refl;
+  levels = λ node member. refl;
+}
+
+early_there : (g h : GraphData) (count : ℕ) (mid new : Option MachineData) → HasParts count mid → LedIn g h mid new → IfSome new (EarlyAreAlike g count h)
+early_there g h count None new has led = subst (λ slot. IfSome slot (EarlyAreAlike g count h)) (sym led) tt
+early_there g h count (Some mid) new has (m, is, led) =
+    subst (λ slot. IfSome slot (EarlyAreAlike g count h)) (sym is) (led.early g count (omega (arith, has)) (early_here g count mid))
+
 -- a machine was led to a graph that is the one on the way, and on from it
-pub led_by_then : (f f_new g h : GraphData) (old mid new : Option MachineData) → f_new ≡ g → LedIn f g old mid → LedIn f_new h mid new → LedBy f g h old new
-led_by_then f f_new g h old mid new same one two =
-    let on = subst (λ (from : GraphData). LedIn from h mid new) same two in (led_in_then f g h old mid new one on, coded_there g h mid new on)
+pub led_by_then : (f f_new g h : GraphData) (count : ℕ) (old mid new : Option MachineData) → f_new ≡ g → HasParts count mid → LedIn f g old mid →
+    LedIn f_new h mid new → LedBy f g h count old new
+led_by_then f f_new g h count old mid new same has one two =
+    let on = subst (λ (from : GraphData). LedIn from h mid new) same two in
+    (led_in_then f g h old mid new one on, coded_there g h mid new on, early_there g h count mid new has on)
 
 -- it covers the graph that is the one on the way
 pub covers_the_way : (f f_new g : GraphData) (old mid : Option MachineData) → f_new ≡ g → LedIn f g old mid → IfSome mid (Covers f_new)

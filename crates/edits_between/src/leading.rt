@@ -4,11 +4,12 @@ ghost use Rattle.std.specs.Bool.{OnTrue};
 ghost use Rattle.switch_paths.specs.Graphs.{nodes, IsWired};
 ghost use Rattle.channel_groups.specs.Changes.{undo};
 ghost use Rattle.machine_laws.specs.Fitting.{Covers};
-ghost use Rattle.edits_between.specs.Leading.{IsAsLarge, LedBy, LedIn, last_in};
+ghost use Rattle.edits_between.specs.Leading.{with_level_of, with_place_of, HasParts, IsAsLarge, LedBy, LedIn, last_in};
 
+use crate::comparing::are_same;
 use channel_groups::Change;
 use std::sync::ledger::Ledger;
-use switch_paths::{Graph, Switch, graphs_are_wired};
+use switch_paths::{Graph, graphs_are_wired};
 use ternary::Steps;
 use unit_step::Machine;
 
@@ -29,42 +30,44 @@ pub fn lead<L: Ledger>(
     if !lead_places(slot, graph, target, steps) {
         return false;
     }
-    if !lead_levels(slot, graph, target, steps) {
-        return false;
-    }
-    is_one(graph, target)
+    lead_levels(slot, graph, target, steps)
 }
 
-/// Leads a machine to another graph by way of a third one, both of as many nodes and places: each part that has code then is that of a group that stands
-/// alike in the third one.
+/// Leads a machine to another graph by way of a third one, both of as many nodes and places; `count` becomes how many parts it had there. Each of these
+/// that is left then, and each part that has code, is that of a group that stands alike in the third graph.
 pub fn lead_by<L: Ledger>(
     slot: &mut Option<Machine>,
     graph: &mut Graph,
     way: &Graph,
     target: &Graph,
+    count: &mut usize,
     steps: &mut Steps<L>,
 ) -> bool
     requires covers { IfSome slot.old (Covers graph.old) }
     requires there { IsAsLarge graph.old way.now }
     requires large { IsAsLarge way.now target.now }
-    ensures led { OnTrue result (LedBy graph.old way.now target.now slot.old slot.new) }
+    ensures led { OnTrue result (LedBy graph.old way.now target.now count.new slot.old slot.new) }
     ensures graph { OnTrue result (graph.new ≡ target.now) }
     ensures last { last_in slot.new ≡ last_in slot.old }
 {
     if !lead(slot, graph, way, steps) {
         return false;
     }
+    *count = parts_in(slot);
     lead(slot, graph, target, steps)
 }
 
-// Whether two graphs are one.
-fn is_one(graph: &Graph, target: &Graph) -> bool
-    ensures { OnTrue result (graph.now ≡ target.now) }
+// How many parts a machine has, if there is one.
+fn parts_in(slot: &Option<Machine>) -> usize
+    ensures { HasParts result slot.now }
 {
-    *graph == *target
+    match slot {
+        Some(machine) => machine.parts(),
+        None => 0,
+    }
 }
 
-// Follows an edit for each place at which the graphs differ, while there is memory.
+// Follows an edit for each place at which the graphs differ, while there is memory: then the graph has the places of the other one.
 fn lead_places<L: Ledger>(
     slot: &mut Option<Machine>,
     graph: &mut Graph,
@@ -74,6 +77,7 @@ fn lead_places<L: Ledger>(
     requires covers { IfSome slot.old (Covers graph.old) }
     requires large { IsAsLarge graph.old target.now }
     ensures led { OnTrue result (LedIn graph.old graph.new slot.old slot.new) }
+    ensures places { OnTrue result (graph.new ≡ record graph.old { places = target.now.places }) }
     ensures large { IsAsLarge graph.new target.now }
     ensures last { last_in slot.new ≡ last_in slot.old }
 {
@@ -97,6 +101,7 @@ fn lead_place<L: Ledger>(
     requires large { IsAsLarge graph.old target.now }
     requires inside { place < length graph.old.places }
     ensures led { OnTrue result (LedIn graph.old graph.new slot.old slot.new) }
+    ensures put { graph.new ≡ with_place_of target.now graph.old place }
     ensures large { IsAsLarge graph.new target.now }
     ensures last { last_in slot.new ≡ last_in slot.old }
 {
@@ -115,12 +120,7 @@ fn lead_place<L: Ledger>(
     follow(slot, graph, &change, steps)
 }
 
-// Whether the same stands at two places.
-fn are_same(one: Option<Switch>, other: Option<Switch>) -> bool {
-    one == other
-}
-
-// Follows an edit for each node whose levels differ, while there is memory.
+// Follows an edit for each node whose levels differ, while there is memory: then the graph has the levels of the other one.
 fn lead_levels<L: Ledger>(
     slot: &mut Option<Machine>,
     graph: &mut Graph,
@@ -130,6 +130,7 @@ fn lead_levels<L: Ledger>(
     requires covers { IfSome slot.old (Covers graph.old) }
     requires large { IsAsLarge graph.old target.now }
     ensures led { OnTrue result (LedIn graph.old graph.new slot.old slot.new) }
+    ensures levels { OnTrue result (graph.new ≡ record graph.old { levels = target.now.levels }) }
     ensures large { IsAsLarge graph.new target.now }
     ensures last { last_in slot.new ≡ last_in slot.old }
 {
@@ -153,6 +154,7 @@ fn lead_level<L: Ledger>(
     requires large { IsAsLarge graph.old target.now }
     requires inside { node < nodes graph.old }
     ensures led { OnTrue result (LedIn graph.old graph.new slot.old slot.new) }
+    ensures put { graph.new ≡ with_level_of target.now graph.old node }
     ensures large { IsAsLarge graph.new target.now }
     ensures last { last_in slot.new ≡ last_in slot.old }
 {
@@ -172,7 +174,9 @@ fn lead_level<L: Ledger>(
 }
 
 // Whether two levels are one.
-fn are_same_levels(one: u8, other: u8) -> bool {
+fn are_same_levels(one: u8, other: u8) -> bool
+    ensures { OnTrue result (one ≡ other) }
+{
     one == other
 }
 

@@ -9,6 +9,7 @@
 //! For the proofs of crates above: `BuildsAgain`, what a build of a graph comes to whose texts are those of the last build.
 #![tactic(auto)]
 
+mod comparing;
 mod leading;
 
 pub use leading::{lead, lead_by};

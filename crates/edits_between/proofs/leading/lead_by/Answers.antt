@@ -14,8 +14,8 @@ lead-requires-2 g c =
 
 pub returns-clause-led : goal.returns-clause-led
 returns-clause-led g c = OnTrue_from c.lead-2.result _ (λ set.
-    led_by_then c.args.graph.now c.lead.new.graph c.args.way.now c.args.target.now c.args.slot.now c.lead.new.slot c.lead-2.new.slot
-    (OnTrue_at c.if-not-lead.false c.lead.ensures.graph) (OnTrue_at c.if-not-lead.false c.lead.ensures.led) (OnTrue_at set c.lead-2.ensures.led))
+    led_by_then c.args.graph.now c.lead.new.graph c.args.way.now c.args.target.now c.parts_in.result c.args.slot.now c.lead.new.slot c.lead-2.new.slot
+    (OnTrue_at c.if-not-lead.false c.lead.ensures.graph) c.parts_in.ensures (OnTrue_at c.if-not-lead.false c.lead.ensures.led) (OnTrue_at set c.lead-2.ensures.led))
 
 pub returns-clause-last : goal.returns-clause-last
 returns-clause-last g c = c.lead-2.ensures.last ∙ c.lead.ensures.last

@@ -1,13 +1,15 @@
 -- The graph before the edit is the one that was there.
 use Rattle.std.proofs.Common.{◌≡◌, ◌<◌, length, None, Some, sym, ap, subst, ◌∙◌}
 use Rattle.std.specs.Bool.{OnTrue}
-use Rattle.std.specs.Prelude.{IfSome}
+use Rattle.std.proofs.lemmas.Bool.{OnTrue_at}
+use Rattle.std.specs.Prelude.{IfSome, slice_set}
 use Rattle.std.proofs.lemmas.List.{length-set}
 use Rattle.switch_paths.specs.Graphs.{GraphData, IsWired, nodes}
 use Rattle.channel_groups.specs.Changes.{undo}
 use Rattle.machine_laws.specs.Fitting.{Covers}
 use Rattle.edits_between.specs.Leading.{LedIn}
 use Rattle.edits_between.proofs.LeadingLemmas.{led_in_none, undo_level}
+use Rattle.edits_between.proofs.ReachingLemmas.{level_stays}
 use Rattle.edits_between.proofs.leading.lead_level.Given.{Over}
 use Rattle.edits_between.proofs.leading.lead_level.Goals.{After-set_level}
 use Rattle.edits_between.proofs.leading.lead_level.Goals as goal
@@ -17,6 +19,11 @@ level-has-requires g c = subst (λ n. c.args.node < n) (sym c.requires.large.nod
 
 pub returns-then-are_same_levels-clause-led : goal.returns-then-are_same_levels-clause-led
 returns-then-are_same_levels-clause-led g c = led_in_none c.args.graph.now c.args.slot.now c.requires.covers
+
+pub returns-then-are_same_levels-clause-put : goal.returns-then-are_same_levels-clause-put
+returns-then-are_same_levels-clause-put g c =
+    level_stays c.args.target.now c.args.graph.now c.args.node
+    (sym c.level-had.ensures.value ∙ (OnTrue_at c.if-are_same_levels.true c.are_same_levels.ensures ∙ c.level-has.ensures.value))
 
 -- the graph before the edit
 before : (g : Over) (c : After-set_level g) →
@@ -43,6 +50,11 @@ pub returns-clause-led : goal.returns-clause-led
 returns-clause-led g c =
     subst (λ h. OnTrue c.follow.result (LedIn h c.set_level.new.self c.args.slot.now c.follow.new.slot))
     (before g (goal.at.returns-clause-led g c).After-set_level) c.follow.ensures.led
+
+pub returns-clause-put : goal.returns-clause-put
+returns-clause-put g c =
+    c.set_level.ensures
+    ∙ ap (λ level. record c.args.graph.now { levels = slice_set c.args.graph.now.levels c.args.node level }) c.level-has.ensures.value
 
 pub returns-clause-large : goal.returns-clause-large
 returns-clause-large g c = record {

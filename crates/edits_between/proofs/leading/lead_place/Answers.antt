@@ -1,19 +1,26 @@
 -- The graph before the edit is the one that was there.
 use Rattle.std.proofs.Common.{◌≡◌, length, None, Some, sym, ap, subst, ◌∙◌}
 use Rattle.std.specs.Bool.{OnTrue}
-use Rattle.std.specs.Prelude.{IfSome}
+use Rattle.std.proofs.lemmas.Bool.{OnTrue_at}
+use Rattle.std.specs.Prelude.{IfSome, slice_set}
 use Rattle.std.proofs.lemmas.List.{length-set}
 use Rattle.switch_paths.specs.Graphs.{FitsPlace, GraphData, IsWired, nodes}
 use Rattle.channel_groups.specs.Changes.{undo}
 use Rattle.machine_laws.specs.Fitting.{Covers}
 use Rattle.edits_between.specs.Leading.{LedIn}
 use Rattle.edits_between.proofs.LeadingLemmas.{led_in_none, undo_place}
+use Rattle.edits_between.proofs.ReachingLemmas.{place_stays}
 use Rattle.edits_between.proofs.leading.lead_place.Given.{Over}
 use Rattle.edits_between.proofs.leading.lead_place.Goals.{After-put_switch}
 use Rattle.edits_between.proofs.leading.lead_place.Goals as goal
 
 pub returns-then-are_same-clause-led : goal.returns-then-are_same-clause-led
 returns-then-are_same-clause-led g c = led_in_none c.args.graph.now c.args.slot.now c.requires.covers
+
+pub returns-then-are_same-clause-put : goal.returns-then-are_same-clause-put
+returns-then-are_same-clause-put g c =
+    place_stays c.args.target.now c.args.graph.now c.args.place
+    (sym c.switch_there-stood.ensures.value ∙ (OnTrue_at c.if-are_same.true c.are_same.ensures ∙ c.switch_there-stands.ensures.value))
 
 pub put_switch-requires-clause-fits : goal.put_switch-requires-clause-fits
 put_switch-requires-clause-fits g c = subst (λ n. FitsPlace n c.switch_there-stands.result) c.requires.large.nodes_are c.switch_there-stands.ensures.fits
@@ -38,6 +45,11 @@ pub returns-clause-led : goal.returns-clause-led
 returns-clause-led g c =
     subst (λ h. OnTrue c.follow.result (LedIn h c.put_switch.new.self c.args.slot.now c.follow.new.slot))
     (before g (goal.at.returns-clause-led g c).After-put_switch) c.follow.ensures.led
+
+pub returns-clause-put : goal.returns-clause-put
+returns-clause-put g c =
+    c.put_switch.ensures
+    ∙ ap (λ stands. record c.args.graph.now { places = slice_set c.args.graph.now.places c.args.place stands }) c.switch_there-stands.ensures.value
 
 pub returns-clause-large : goal.returns-clause-large
 returns-clause-large g c = record {
