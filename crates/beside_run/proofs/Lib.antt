@@ -1,3 +1,4 @@
 pub mod BeginningLemmas
+pub mod DifferingLemmas
 pub mod RunningLemmas
 pub mod TouchingLemmas

@@ -22,29 +22,28 @@ use Rattle.machine_laws.proofs.FittingLemmas.{fits_with}
 use Rattle.machine_laws.proofs.HeldLemmas.{held_at}
 use Rattle.good_run.specs.Recording.{RunData, state_before}
 use Rattle.unit_step.specs.Restarting.{MarksParts, Restarts}
-use Rattle.beside.specs.Fitting.{all_marked}
+use Rattle.beside.specs.Fitting.{FitsBeside, all_marked}
 use Rattle.beside.specs.Laws.{GoBack}
-use Rattle.beside.proofs.StartLemmas.{goes_back_beside, starts_beside}
+use Rattle.beside.proofs.StartLemmas.{goes_back_beside}
 use Rattle.beside_phases.specs.Counting.{SettlesSeen}
 use Rattle.beside_phases.proofs.CountingLemmas.{build_on, held_on}
-use Rattle.beside_run.specs.Running.{AreAlikeBut, BeginsPhase, BeginsRun, BesideData, HasAll, IsRunBeside, LagsAt, Leaves, SettlesRun, StartsBeside, StaysOrComes}
+use Rattle.beside_run.specs.Running.{AreAlikeBut, BeginsPhase, BeginsRun, BesideData, IsRunBeside, LagsAt, Leaves, SettlesRun, StartsBeside, StaysOrComes}
 use Rattle.beside_run.proofs.BeginningLemmas.{rails_same}
 
 -- ---- where it begins
 
--- with all parts marked and apart a machine begins beside a good run
-pub begins_run : (g : GraphData) (run : RunData) (h : GraphData) (m : MachineData) (b : BesideData) → FitsGraph h m → length m.marks ≡ length m.parts →
-    ((k : ℕ) → k < length m.parts → IsMarked m.marks k) → length run.start ≡ length m.state → IsSound run.start → AreAlikeBut g h m b.touched.inside →
-    b.good ≡ run.start → b.at ≡ 0 → HasAll (length m.parts) b.apart → length b.touched.inside ≡ length m.parts → length b.room.inside ≡ length m.parts →
-    length b.given.inside ≡ length m.state → ((node : ℕ) → ¬ IsIn b.given.inside node) → length b.before ≡ length m.state → IsRunBeside g run h m m.state b
-begins_run g run h m b fits counted marked start_counted sound alike good_is at_is all touched room given none before = record {
-  fits = starts_beside g h b.good b.apart.inside m fits counted all.counted (ap length good_is ∙ start_counted) marked (λ k inside. all.all k inside);
+-- a machine that fits beside a good run where that starts begins beside it
+pub begins_run : (g : GraphData) (run : RunData) (h : GraphData) (m : MachineData) (b : BesideData) → FitsBeside g h run.start b.apart.inside m →
+    IsSound run.start → AreAlikeBut g h m b.touched.inside → b.good ≡ run.start → b.at ≡ 0 → length b.touched.inside ≡ length m.parts →
+    length b.room.inside ≡ length m.parts → length b.given.inside ≡ length m.state → ((node : ℕ) → ¬ IsIn b.given.inside node) →
+    IsRunBeside g run h m m.state b
+begins_run g run h m b fits sound alike good_is at_is touched room given none = record {
+  fits = subst (λ good. FitsBeside g h good b.apart.inside m) (sym good_is) fits;
   here = good_is ∙ ap (state_before run) (sym at_is);
   sound = subst IsSound (sym good_is) sound;
   touched_counted = touched;
   room_counted = room;
   given_counted = given;
-  before_counted = before;
   state_counted = refl;
   lags = λ node out. refl;
   free = λ node is. absurd (none node is);
@@ -92,14 +91,14 @@ alike_held g h old new touched parts alike k part stands out group is_part =
 -- a phase that settled, and parts that went back
 pub settles_run : {S : Type 0} (see : S → List Tern → S) (g : GraphData) (run : RunData) (h : GraphData) (limit steps : ℕ) (joined : Bool) (old mid new : MachineData)
     (state : List Tern) (b : BesideData) (at place : ℕ) (good_mid good_new : List Tern) (apart_mid apart apart_new room_new given_new : NodeSetData)
-    (before_new : List Tern) (before after : S) → IsRunBeside g run h old state b →
+    (before after : S) → IsRunBeside g run h old state b →
     BeginsPhase g run h at old mid state good_mid apart_mid b.given given_new → SettlesSeen see g h limit steps joined mid new good_new apart.inside before after →
     good_new ≡ state_before run place → IsSound (state_before run place) → GoBack b.touched.inside new good_new apart.inside apart_new.inside →
-    length room_new.inside ≡ length b.room.inside → length before_new ≡ length b.before →
+    length room_new.inside ≡ length b.room.inside →
     SettlesRun see g run h limit steps joined old new state
-    (record { good = good_new; at = place; apart = apart_new; touched = b.touched; room = room_new; given = given_new; before = before_new }) before after
-settles_run see g run h limit steps joined old mid new state b at place good_mid good_new apart_mid apart apart_new room_new given_new before_new before after is
-    begins settles here sound back room_counted before_counted =
+    (record { good = good_new; at = place; apart = apart_new; touched = b.touched; room = room_new; given = given_new }) before after
+settles_run see g run h limit steps joined old mid new state b at place good_mid good_new apart_mid apart apart_new room_new given_new before after is
+    begins settles here sound back room_counted =
     let begun = begins.places in
     let parts : new.parts ≡ old.parts = settles.held.parts ∙ begun.held.parts in
     let counted : length new.state ≡ length old.state = settles.fits.fits.covers.counted ∙ sym is.fits.fits.covers.counted in
@@ -113,7 +112,6 @@ settles_run see g run h limit steps joined old mid new state b at place good_mid
         touched_counted = is.touched_counted ∙ sym (ap length parts);
         room_counted = room_counted ∙ (is.room_counted ∙ sym (ap length parts));
         given_counted = begins.given_counted ∙ (is.given_counted ∙ sym counted);
-        before_counted = before_counted ∙ (is.before_counted ∙ sym counted);
         state_counted = refl;
         lags = λ node out. refl;
         free = λ node given. absurd (begins.given_none node given);
@@ -139,7 +137,6 @@ gives_run g run h m state b node value given_new no_rail inside is set = record 
   touched_counted = is.touched_counted;
   room_counted = is.room_counted;
   given_counted = ap length set ∙ (length-set b.given.inside node true ∙ is.given_counted);
-  before_counted = is.before_counted;
   state_counted = length-set state node value ∙ is.state_counted;
   lags = λ n out.
       let other : n ≢ node = λ same. out (subst (λ marks. IsMarked marks n) (sym set)

@@ -27,7 +27,7 @@ AreAlikeBut g h m touched =
     (k : ℕ) (part : MachinePart) → Stands m.parts k part → (¬ IsMarked touched k) → (group : Group) → IsPartOf h group part → IsAlike g h group
 
 -- a run beside a good one: the good state and how many looks of the record led to it; the parts that are apart, those that the fault touches, and room for
--- as many; the nodes that were given states since the last phase; and room for a state
+-- as many; and the nodes that were given states since the last phase
 pub record BesideData : Type 0 where
   pub good : List Tern
   pub at : ℕ
@@ -35,7 +35,6 @@ pub record BesideData : Type 0 where
   pub touched : NodeSetData
   pub room : NodeSetData
   pub given : NodeSetData
-  pub before : List Tern
 
 -- the machine fits the fault's graph beside the good run, at this place of the record; its state is the one that is meant, but for nodes that were given
 -- others since, of which none is a rail
@@ -46,7 +45,6 @@ pub record IsRunBeside (g : GraphData) (run : RunData) (h : GraphData) (m : Mach
   pub touched_counted : length b.touched.inside ≡ length m.parts
   pub room_counted : length b.room.inside ≡ length m.parts
   pub given_counted : length b.given.inside ≡ length m.state
-  pub before_counted : length b.before ≡ length m.state
   pub state_counted : length state ≡ length m.state
   pub lags : (node : ℕ) → (¬ IsIn b.given.inside node) → state_at m.state node ≡ state_at state node
   pub free : (node : ℕ) → IsIn b.given.inside node → RAILS ≤ node
@@ -94,23 +92,13 @@ pub record GivesNode (node : ℕ) (b b_new : BesideData) : Type 0 where
   pub same : b_new ≡ record b { given = b_new.given }
   pub inside : b_new.given.inside ≡ slice_set b.given.inside node true
 
--- the part with this number is put in if it has no code, and what was in stays
-pub record AreUncoded (m : MachineData) (k : ℕ) (old new : List Bool) : Type 0 where
-  pub count : length new ≡ length old
-  pub stays : (l : ℕ) → IsMarked old l → IsMarked new l
-  pub put : (part : MachinePart) → Stands m.parts k part → part.code ≡ None → IsMarked new k
-
--- each part that has no code is in the set
-pub record HasUncoded (m : MachineData) (set : NodeSetData) : Type 0 where
+-- the parts behind the first so many are in the set, and no others
+pub record HasLater (count : ℕ) (m : MachineData) (set : NodeSetData) : Type 0 where
   pub counted : length set.inside ≡ length m.parts
-  pub all : (k : ℕ) (part : MachinePart) → Stands m.parts k part → part.code ≡ None → IsMarked set.inside k
+  pub all : (k : ℕ) → count ≤ k → k < length m.parts → IsIn set.inside k
+  pub only : (k : ℕ) → IsIn set.inside k → count ≤ k
 
--- all lower numbers are in the set, and there are so many
-pub record HasAll (count : ℕ) (set : NodeSetData) : Type 0 where
-  pub counted : length set.inside ≡ count
-  pub all : (k : ℕ) → k < count → IsIn set.inside k
-
--- all parts of the machine are marked, and it keeps them
+-- the machine keeps all but its marks
 pub record StartsBeside (old new : MachineData) : Type 0 where
   pub same : new ≡ record old { marks = new.marks }
 

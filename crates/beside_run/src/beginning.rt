@@ -1,5 +1,6 @@
 //! Where a phase begins: nodes are placed in both runs.
-ghost use Rattle.std.specs.Prelude.{◌≡◌, ℕ, ◌<◌, ◌≤◌, length, Contains};
+ghost use Rattle.std.specs.Prelude.{◌≡◌, ℕ, ◌<◌, ◌≤◌, length, slice_set, Contains};
+ghost use Rattle.std.specs.Bool.{OnTrue};
 ghost use Rattle.switch_paths.specs.declared.TheConstants.{RAILS};
 ghost use Rattle.switch_paths.specs.Switching.{state_at};
 ghost use Rattle.part_words.specs.declared.change.Change.{Change};
@@ -85,8 +86,40 @@ pub(crate) fn place_given(
     let count = given.len();
     for place in 0..count {
         let node = given.at(place);
-        let value = good[node];
-        let meant = state[node];
-        place_both(machine, good_graph, graph, node, value, meant, good, apart);
+        place_meant(machine, good_graph, graph, node, state, good, apart);
     }
+}
+
+// Places a node that was given a state, unless it has that already: in the good run it stays.
+fn place_meant(
+    machine: &mut Machine,
+    good_graph: &Graph,
+    graph: &Graph,
+    node: usize,
+    state: &[Tern],
+    good: &mut [Tern],
+    apart: &mut NodeSet,
+)
+    requires fits { FitsBeside good_graph.now graph.now good.old apart.old.inside machine.old }
+    requires inside { node < length machine.old.state }
+    requires no_rail { RAILS ≤ node }
+    requires counted { length state.now ≡ length machine.old.state }
+    ensures places { PlacesSome good_graph.now graph.now machine.old machine.new good.new apart.new.inside }
+    ensures good { good.new ≡ good.old }
+    ensures state { machine.new.state ≡ slice_set machine.old.state node (state_at state.now node) }
+{
+    let meant = state[node];
+    if has_state(machine.state(), node, meant) {
+        return;
+    }
+    let value = good[node];
+    place_both(machine, good_graph, graph, node, value, meant, good, apart);
+}
+
+// Whether a node has this state.
+fn has_state(states: &[Tern], node: usize, value: Tern) -> bool
+    requires { node < length states.now }
+    ensures { OnTrue result (state_at states.now node ≡ value) }
+{
+    states[node] == value
 }

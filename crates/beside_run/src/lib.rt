@@ -15,6 +15,7 @@
 
 mod beginning;
 mod coming;
+mod differing;
 mod leaving;
 mod phases;
 mod running;
@@ -24,4 +25,4 @@ mod touching;
 pub use leaving::leave;
 pub use running::RunBeside;
 pub use starting::begin;
-pub use touching::uncoded;
+pub use touching::later_parts;

@@ -35,7 +35,6 @@ pub(crate) fn settle_phase<O: Onlooker, L: Ledger>(
     touched: &NodeSet,
     room: &mut NodeSet,
     given: &mut NodeSet,
-    before: &mut [Tern],
     steps: &mut Steps<L>,
     onlooker: &mut O,
 ) -> Settled
@@ -46,7 +45,6 @@ pub(crate) fn settle_phase<O: Onlooker, L: Ledger>(
       touched = touched.now;
       room = room.old;
       given = given.old;
-      before = before.old;
     }) }
     requires beat { IsBeat good_graph.now run.now beat }
     requires few { (beat.end - (beat.begin + 1)) + beat.limit + length machine.old.state < 2 ^ 62 }
@@ -58,7 +56,6 @@ pub(crate) fn settle_phase<O: Onlooker, L: Ledger>(
       touched = touched.now;
       room = room.new;
       given = given.new;
-      before = before.new;
     })
         (O.seen onlooker.old) (O.seen onlooker.new) }
     ensures knows { O.knows onlooker.new machine.new.state }
@@ -68,8 +65,7 @@ pub(crate) fn settle_phase<O: Onlooker, L: Ledger>(
     );
     let first = beat.begin + 1;
     let told = settle_counted(
-        machine, good_graph, graph, run, first, beat.end, beat.limit, good, apart, before, steps,
-        onlooker,
+        machine, good_graph, graph, run, first, beat.end, beat.limit, good, apart, steps, onlooker,
     );
     go_back(machine, touched, good, apart, room);
     told

@@ -4,14 +4,16 @@ ghost use Rattle.std.specs.Bool.{OnTrue};
 ghost use Rattle.switch_paths.specs.Rails.{IsSound};
 ghost use Rattle.machine_laws.specs.Fitting.{FitsGraph};
 ghost use Rattle.good_phases.specs.Phases.{IsBeat};
-ghost use Rattle.beside_run.specs.Running.{AreAlikeBut, ComesNext, GivesNode, HasAll, IsRunBeside, SettlesRun, StartsBeside};
+ghost use Rattle.beside_run.specs.Differing.{AreFirstApart};
+ghost use Rattle.beside_run.specs.Running.{AreAlikeBut, ComesNext, GivesNode, IsRunBeside, SettlesRun, StartsBeside};
 
 use crate::coming::is_next;
+use crate::differing::first_apart;
 use crate::phases::settle_phase;
 use good_phases::Beat;
 use good_run::Recorder;
 use settling::{Onlooker, Settled};
-use std::alloc::{AllocError, Global};
+use std::alloc::Global;
 use std::marker::Model;
 use std::sync::ledger::Ledger;
 use switch_paths::Graph;
@@ -28,7 +30,6 @@ pub struct RunBeside {
     touched: NodeSet,
     room: NodeSet,
     given: NodeSet,
-    before: Vec<Tern>,
 }
 
 impl Model for RunBeside {
@@ -36,12 +37,13 @@ impl Model for RunBeside {
 
     ghost Value = { BesideData };
 
-    ghost view = { λ b. record { good = b.good.items; at = b.at; apart = b.apart; touched = b.touched; room = b.room; given = b.given; before = b.before.items } };
+    ghost view = { λ b. record { good = b.good.items; at = b.at; apart = b.apart; touched = b.touched; room = b.room; given = b.given } };
 }
 
 impl RunBeside {
-    /// A run begins beside a good one, in a machine of the fault's graph, of which each part stands alike in both graphs but those that are touched. All parts
-    /// are apart, and marked, until the end of the first phase.
+    /// A run begins beside a good one, in a machine of the fault's graph, of which each part stands alike in both graphs but those that are touched. The parts
+    /// are apart, and marked, that are touched or stale, and those that a node concerns which has another state than where the good run starts; all others
+    /// follow it from the first step on.
     pub fn start(
         alloc: Global,
         machine: &mut Machine,
@@ -56,17 +58,19 @@ impl RunBeside {
         requires touched { length touched.inside ≡ length machine.old.parts }
         requires alike { AreAlikeBut good_graph.now graph.now machine.old touched.inside }
         ensures beside { IfOk result (IsRunBeside good_graph.now run.now graph.now machine.new machine.new.state) }
+        ensures first { IfOk result (λ begun. AreFirstApart machine.old touched.inside run.now.start begun.apart.inside) }
         ensures marks { StartsBeside machine.old machine.new }
     {
         machine.has_a_mark_for_each_part();
-        machine.mark_all_parts();
         let parts = machine.parts();
         let nodes = machine.state().len();
-        let apart = all_of(alloc, parts)?;
+        let start = run.start();
+        let apart = first_apart(alloc, machine, &touched, start)?;
         let room = NodeSet::new(alloc, parts)?;
         let given = NodeSet::new(alloc, nodes)?;
-        let state = Vec::from_slice(alloc, run.start())?;
-        let before = Vec::from_slice(alloc, machine.state())?;
+        let state = Vec::from_slice(alloc, start)?;
+        apart.lists_what_is_in_it();
+        machine.mark_just(apart.nodes_in());
         Ok(RunBeside {
             good: state,
             at: 0,
@@ -74,7 +78,6 @@ impl RunBeside {
             touched,
             room,
             given,
-            before,
         })
     }
 
@@ -83,6 +86,13 @@ impl RunBeside {
         ensures { result ≡ self.now.at }
     {
         self.at
+    }
+
+    /// How many parts are apart.
+    pub fn apart(&self) -> usize
+        ensures { result ≡ length self.now.apart.list }
+    {
+        self.apart.len()
     }
 
     /// A node that is no rail is given a state, which takes effect where the next phase begins.
@@ -132,30 +142,10 @@ impl RunBeside {
             &self.touched,
             &mut self.room,
             &mut self.given,
-            &mut self.before,
             steps,
             onlooker,
         );
         self.at = beat.end;
         told
-    }
-}
-
-// A set of all of so many parts.
-fn all_of(alloc: Global, count: usize) -> Result<NodeSet, AllocError>
-    ensures { IfOk result (HasAll count) }
-{
-    let mut set = NodeSet::new(alloc, count)?;
-    put_below(count, &mut set);
-    Ok(set)
-}
-
-// Puts all lower numbers into a set.
-fn put_below(count: usize, set: &mut NodeSet)
-    requires { length set.old.inside ≡ count }
-    ensures { HasAll count set.new }
-{
-    for k in 0..count {
-        set.insert(k);
     }
 }

@@ -1,39 +1,29 @@
 //! The parts that a fault touches.
-ghost use Rattle.std.specs.Prelude.{◌≡◌, ◌<◌, length, IfOk};
-ghost use Rattle.beside_run.specs.Running.{AreUncoded, HasUncoded};
+ghost use Rattle.std.specs.Prelude.{◌≡◌, ℕ, length, IfOk};
+ghost use Rattle.vicinity.specs.NodeSets.{IsIn};
+ghost use Rattle.beside_run.specs.Running.{HasLater};
 
 use std::alloc::{AllocError, Global};
 use unit_step::Machine;
 use vicinity::NodeSet;
 
-/// The parts of a machine that have no code: in one that was led from the good graph to the fault's, and isn't finished yet, all of those that
-/// may stand otherwise.
-pub fn uncoded(alloc: Global, machine: &Machine) -> Result<NodeSet, AllocError>
-    ensures { IfOk result (HasUncoded machine.now) }
+/// The parts of a machine behind the first so many: in one that had so many where it was led to the good graph, and was led on to the fault's, all of
+/// those that may stand otherwise.
+pub fn later_parts(alloc: Global, machine: &Machine, count: usize) -> Result<NodeSet, AllocError>
+    ensures { IfOk result (HasLater count machine.now) }
 {
     let mut set = NodeSet::new(alloc, machine.parts())?;
-    put_uncoded(machine, &mut set);
+    put_later(machine, count, &mut set);
     Ok(set)
 }
 
-// Puts in the parts that have no code.
-fn put_uncoded(machine: &Machine, set: &mut NodeSet)
-    requires { length set.old.inside ≡ length machine.now.parts }
-    ensures { HasUncoded machine.now set.new }
-{
-    for k in 0..machine.parts() {
-        put_if_uncoded(machine, k, set);
-    }
-}
-
-// Puts in a part if it has no code.
-fn put_if_uncoded(machine: &Machine, k: usize, set: &mut NodeSet)
-    requires inside { k < length machine.now.parts }
+// Puts the parts behind the first so many into an empty set.
+fn put_later(machine: &Machine, count: usize, set: &mut NodeSet)
     requires counted { length set.old.inside ≡ length machine.now.parts }
-    ensures { AreUncoded machine.now k set.old.inside set.new.inside }
+    requires empty { (k : ℕ) → ¬ IsIn set.old.inside k }
+    ensures { HasLater count machine.now set.new }
 {
-    if machine.is_coded(k) {
-        return;
+    for k in count..machine.parts() {
+        set.insert(k);
     }
-    set.insert(k);
 }

@@ -27,7 +27,6 @@ settle_counted-told-requires g c =
       phase = c.requires.beat.phase;
       begins = begun.here;
       few = omega (arith, c.requires.few, begun.places.fits.fits.covers.counted, is.fits.fits.covers.counted);
-      room = omega (arith, is.before_counted, begun.places.fits.fits.covers.counted, is.fits.fits.covers.counted);
       knows = subst (g.O.Observer.knows c.args.onlooker.now) (sym begun.state_is) c.requires.knows;
     }
 
@@ -49,6 +48,6 @@ returns-clause-settles g c =
     settles_run g.O.Observer.see c.args.good_graph.now c.args.run.now c.args.graph.now c.args.beat.limit c.settle_counted-told.result.steps
     c.settle_counted-told.result.joined c.args.machine.now c.begin_phase.new.machine c.settle_counted-told.new.machine c.args.state.now _ c.args.beat.begin
     c.args.beat.end c.begin_phase.new.good c.settle_counted-told.new.good c.begin_phase.new.apart c.settle_counted-told.new.apart c.go_back.new.apart
-    c.go_back.new.room c.begin_phase.new.given c.settle_counted-told.new.before (g.O.Observer.seen c.args.onlooker.now)
+    c.go_back.new.room c.begin_phase.new.given (g.O.Observer.seen c.args.onlooker.now)
     (g.O.Observer.seen c.settle_counted-told.new.onlooker) c.requires.beside c.begin_phase.ensures c.settle_counted-told.ensures.settles
-    c.settle_counted-told.ensures.ends c.requires.beat.ends_sound c.go_back.ensures.back c.go_back.ensures.room c.settle_counted-told.ensures.room
+    c.settle_counted-told.ensures.ends c.requires.beat.ends_sound c.go_back.ensures.back c.go_back.ensures.room
