@@ -1,8 +1,6 @@
 -- What is known of an assignment whose name was read, and of a session whose fields were.
-use Rattle.std.proofs.Common.{◌≡◌, ℕ, List, Option, Result, subst}
+use Rattle.std.proofs.Common.{◌≡◌, ℕ, List, Option, subst}
 use Rattle.script_lang.specs.declared.value.Value.{Value}
-use Rattle.vector_values.specs.Values.{Letter}
-use Rattle.node_values.specs.declared.fault.GivenFault.{GivenFault}
 use Rattle.node_values.specs.Givings.{letters_given}
 use Rattle.session_meaning.specs.Sessions.{HeldSession}
 use Rattle.session_meaning.specs.declared.fault.Refusal.{Refusal}
@@ -25,9 +23,3 @@ pub session_stops : {M : Type 0} (at : ℕ → Option Refusal) (old new : HeldSe
     IsFaultFor (given_refusal at (letters_given new.core.circuit new.core.vectors item)) fault
 session_stops at old new item fault same stops =
     subst (λ (s : HeldSession _). IsFaultFor (given_refusal at (letters_given s.core.circuit s.core.vectors item)) fault) same stops
-
--- what ends the same letters
-pub letters_stop : (at : ℕ → Option Refusal) (old new : Result (List (ℕ × Letter)) GivenFault) (fault : ApplyFault) → old ≡ new →
-    IsFaultFor (given_refusal at old) fault → IsFaultFor (given_refusal at new) fault
-letters_stop at old new fault same stops =
-    subst (λ (found : Result (List (ℕ × Letter)) GivenFault). IsFaultFor (given_refusal at found) fault) same stops

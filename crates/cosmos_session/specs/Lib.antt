@@ -1,2 +1,4 @@
+pub mod Keeping
 pub mod Showing
 pub mod Targets
+pub mod Words

@@ -1,16 +1,11 @@
 //! Edits of the circuit.
 
 ghost use Rattle.std.specs.Prelude.{◌≡◌, ◌<◌, ◌≤◌, All, OnOk, OnErr};
-ghost use Rattle.switch_paths.specs.Graphs.{nodes};
-ghost use Rattle.switch_paths.specs.declared.TheConstants.{RAILS};
-ghost use Rattle.netlist.specs.Edits.{answer_of, with_input, with_place};
+ghost use Rattle.cosmos_session.specs.Words.{nodes, RAILS, answer_of, with_input, with_place, LeadsBy, Quietly, IsEditing, IsStill};
+ghost use Rattle.cosmos_session.specs.Words.{place_after, edit_fault, edit_of};
 ghost use Rattle.script_lang.specs.declared.command.Command.TheVariants as family;
 ghost use Rattle.script_lang.specs.declared.command.Edit.TheVariants as asked;
 ghost use Rattle.session_meaning.specs.Effects as effect;
-ghost use Rattle.column_stage.specs.Acts.{LeadsBy};
-ghost use Rattle.session_meaning.specs.Outcomes.{Quietly};
-ghost use Rattle.session_meaning.specs.Stages.{IsEditing, IsStill};
-ghost use Rattle.session_meaning.specs.Switches.{place_after, edit_fault, edit_of};
 
 use crate::changes::{change_at, change_of, change_of_level};
 use crate::naming::all_nodes;

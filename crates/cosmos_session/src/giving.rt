@@ -6,18 +6,14 @@ ghost use Rattle.switch_paths.specs.declared.TheConstants.{RAILS};
 ghost use Rattle.script_lang.specs.declared.command.Command.TheVariants as family;
 ghost use Rattle.script_lang.specs.declared.command.Give.TheVariants as asked;
 ghost use Rattle.session_meaning.specs.Effects as effect;
-ghost use Rattle.column_stage.specs.Acts.{Leads};
-ghost use Rattle.column_stage.specs.Columns.{IsSoundState};
-ghost use Rattle.group_text.specs.Texts.{GroupTextData};
-ghost use Rattle.session_meaning.specs.Stages.{GivesOn, acts_of_states};
-ghost use Rattle.session_meaning.specs.Refusals.{values_refusal};
-ghost use Rattle.session_meaning.specs.Outcomes.{Quietly};
-ghost use Rattle.session_meaning.specs.Preparing.{IsFaultFor};
+ghost use Rattle.cosmos_session.specs.Words.{acts_of_states, give_of, refusal_of, values_refusal, GivesOn, GroupTextData, IsFaultFor, IsSoundState, Leads, Quietly};
 ghost use Rattle.cosmos_session.specs.Targets.{target_at};
 
+use crate::columns::target_of;
 use crate::placing::put_node;
 use crate::session::Session;
 use crate::values::{Target, all_states, place_refusal};
+use column_script::ValueCommand;
 use column_stage::{Columns, PlainStage};
 use netlist::{Circuit, RAILS};
 use script_lang::{Give, ValueList};
@@ -32,32 +28,21 @@ impl<M: PlainStage> Session<M> {
         ensures still { OnErr result (self.new.stage ≡ self.old.stage) }
     {
         match give {
-            Give::Set(list) => self.set(list),
-            Give::Charge(list) => self.charge(list),
+            Give::Set(list) => self.give_values(ValueCommand::Set, list),
+            Give::Charge(list) => self.give_values(ValueCommand::Charge, list),
             Give::Back(name) => self.back(name),
         }
     }
 
-    // `set`: gives the named input nodes their states, from left to right.
+    // `set` and `charge`: give the named input nodes, or the named storage nodes, their states, from left to right.
     #[tactic(auto, using(session_meaning::proofs::OutcomeLemmas::fault_quiet))]
-    fn set(&mut self, list: &ValueList) -> Result<(), ApplyFault>
-        ensures quiet { Quietly self.old.core (family.Give (asked.Set list.now)) self.new.core result }
-        ensures stage { OnOk result (GivesOn M.did self.old (asked.Set list.now) self.new) }
+    fn give_values(&mut self, kind: ValueCommand, list: &ValueList) -> Result<(), ApplyFault>
+        ensures quiet { Quietly self.old.core (give_of kind list.now) self.new.core result }
+        ensures stage { OnOk result (Leads M.did self.old.stage
+            (acts_of_states self.old.core.circuit.graph (effect.states_by self.old.core.circuit self.old.core.vectors list.now)) self.new.stage) }
         ensures still { OnErr result (self.new.stage ≡ self.old.stage) }
     {
-        let states = self.states_for(list, Target::Inputs)?;
-        self.put_assigned(&states);
-        Ok(())
-    }
-
-    // `charge`: gives the named storage nodes their states, from left to right.
-    #[tactic(auto, using(session_meaning::proofs::OutcomeLemmas::fault_quiet))]
-    fn charge(&mut self, list: &ValueList) -> Result<(), ApplyFault>
-        ensures quiet { Quietly self.old.core (family.Give (asked.Charge list.now)) self.new.core result }
-        ensures stage { OnOk result (GivesOn M.did self.old (asked.Charge list.now) self.new) }
-        ensures still { OnErr result (self.new.stage ≡ self.old.stage) }
-    {
-        let states = self.states_for(list, Target::Stores)?;
+        let states = self.values_allowed(kind, list)?;
         self.put_assigned(&states);
         Ok(())
     }
@@ -74,6 +59,22 @@ impl<M: PlainStage> Session<M> {
 }
 
 impl<M: Columns> Session<M> {
+    /// The nodes that a command gives states, from left to right, by the values that it has in one column, each with its state
+    /// there; or why the command is refused, which doesn't depend on the column.
+    pub fn values_allowed(
+        &self,
+        kind: ValueCommand,
+        list: &ValueList,
+    ) -> Result<Vec<(usize, Tern)>, ApplyFault>
+        ensures allowed { OnOk result (refusal_of self.now.core (give_of kind list.now) ≡ None) }
+        ensures states { IfOk result (λ states. states.items ≡ effect.states_by self.now.core.circuit self.now.core.vectors list.now) }
+        ensures within { IfOk result (λ states. All (λ pair. pair.0 < nodes self.now.core.circuit.graph) states.items) }
+        ensures refused { IfErr result (IsFaultFor (refusal_of self.now.core (give_of kind list.now))) }
+    {
+        let target = target_of(kind);
+        self.states_for(list, target)
+    }
+
     /// The states that these assignments give nodes, from left to right.
     pub(crate) fn states_for(
         &self,

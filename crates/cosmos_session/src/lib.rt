@@ -53,6 +53,7 @@ mod truths;
 mod values;
 mod waves;
 
+pub use looking::{node_in_use, node_refusal};
 pub use refusals::cycle_refusal;
 pub use session::Session;
 pub use session_meaning::{ApplyFault, Clock, FIRST_LIMIT, MOST_WATCHED, Refusal, places_of};

@@ -1,17 +1,11 @@
 //! Nodes that are looked at.
 
 ghost use Rattle.std.specs.Prelude.{◌≡◌, ◌<◌, List, is_some, true, length, flat_map, All, IfErr};
-ghost use Rattle.group_text.specs.Texts.{GroupTextData};
-ghost use Rattle.switch_paths.specs.Graphs.{nodes};
+ghost use Rattle.cosmos_session.specs.Words.{GroupTextData, nodes, AreInRoom, looked_lines, node_lines, first_refusal, known_refusal};
+ghost use Rattle.cosmos_session.specs.Words.{IsSinkFault, faults_applied, refusals_sent, Sent, ObeysOn};
 ghost use Rattle.netlist.specs.Words.{node_of, node_named};
-ghost use Rattle.told_lines.specs.Lines.{AreInRoom};
-ghost use Rattle.node_looks.specs.Looks.{looked_lines, node_lines};
 ghost use Rattle.script_lang.specs.declared.command.Command.TheVariants as family;
 ghost use Rattle.script_lang.specs.declared.command.Tell.TheVariants as asked;
-ghost use Rattle.session_meaning.specs.Refusals.{first_refusal, known_refusal};
-ghost use Rattle.session_meaning.specs.Sinks.{IsSinkFault, faults_applied, refusals_sent};
-ghost use Rattle.session_meaning.specs.Outcomes.{Sent};
-ghost use Rattle.session_meaning.specs.Stages.{ObeysOn};
 
 use crate::session::Session;
 use column_stage::PlainStage;
@@ -38,8 +32,8 @@ impl<M: PlainStage> Session<M> {
     }
 }
 
-// The first refusal of these names as names of nodes.
-fn node_refusal(circuit: &Circuit, names: &[Name]) -> Option<Refusal>
+/// The first refusal of these names as names of nodes.
+pub fn node_refusal(circuit: &Circuit, names: &[Name]) -> Option<Refusal>
     ensures { result ≡ first_refusal (λ name. known_refusal (node_of circuit.now.names name)) names.now }
 {
     for name in names {
@@ -71,8 +65,8 @@ fn tell_looked<L: Lines>(
     Ok(())
 }
 
-// The node of a name, which is in use.
-fn node_in_use(circuit: &Circuit, name: &[u8]) -> usize
+/// The node of a name, which is in use.
+pub fn node_in_use(circuit: &Circuit, name: &[u8]) -> usize
     requires { is_some (node_of circuit.now.names name.now) ≡ true }
     ensures value { result ≡ node_named circuit.now name.now }
     ensures within { result < nodes circuit.now.graph }

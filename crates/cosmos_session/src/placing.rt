@@ -1,19 +1,10 @@
 //! What is done to a stage: a node is given a state, room is taken, the graph is edited, and it is built.
 
 ghost use Rattle.std.specs.Prelude.{◌≡◌, ℕ, ◌+◌, ◌<◌, ◌≤◌, ◌⊎◌, [], ◌∷◌, List, Err, slice_set, IfErr, IfOk, OnErr, OnOk};
-ghost use Rattle.switch_paths.specs.Graphs.{GraphData, nodes};
-ghost use Rattle.switch_paths.specs.declared.TheConstants.{RAILS};
-ghost use Rattle.switch_paths.specs.Rails.{IsRailed};
-ghost use Rattle.circuit_texts.specs.Building.{Builds};
-ghost use Rattle.circuit_texts.specs.Sizes.{TellsRefused};
-ghost use Rattle.column_stage.specs.Acts.{Built, LeadsBy, Placed, Reserved};
-ghost use Rattle.column_stage.specs.Columns.{AreAmong, AreSound, IsSoundState, with_new_nodes};
-ghost use Rattle.column_stage.specs.Edits.{IsUndone};
-ghost use Rattle.column_stage.specs.declared.TheConstants.{NEW_NODES};
-ghost use Rattle.group_text.specs.Texts.{GroupTextData};
-ghost use Rattle.group_analysis.specs.Using.{used_texts};
-ghost use Rattle.analysis_cache.specs.Keeping.{texts_of};
-ghost use Rattle.session_meaning.specs.Stages.{IsEditing};
+ghost use Rattle.cosmos_session.specs.Words.{GraphData, nodes, RAILS, IsRailed, Builds, TellsRefused, Built, LeadsBy, Placed, Reserved};
+ghost use Rattle.cosmos_session.specs.Words.{AreAmong, AreSound, IsSoundState, with_new_nodes, IsUndone, NEW_NODES, GroupTextData};
+ghost use Rattle.cosmos_session.specs.Words.{used_texts, texts_of, IsEditing};
+ghost use Rattle.cosmos_session.specs.Keeping.{KeepsStage};
 
 use analysis_cache::{Analyst, Kept};
 use channel_groups::Change;
@@ -46,12 +37,8 @@ pub(crate) fn put_in_all<M: Stage>(graph: &Graph, node: usize, letter: Tern, sta
     requires sound { AreSound graph.now (M.columns stage.old) (M.states stage.old) }
     requires inside { node < nodes graph.now }
     requires no_rail { RAILS ≤ node }
-    ensures columns { M.columns stage.new ≡ M.columns stage.old }
     ensures states { (column : ℕ) → column < M.columns stage.old → M.states stage.new column ≡ slice_set (M.states stage.old column) node letter }
-    ensures sound { AreSound graph.now (M.columns stage.new) (M.states stage.new) }
-    ensures last { M.last stage.new ≡ M.last stage.old }
-    ensures serves { (kept : List GroupTextData) → M.serves stage.old graph.now kept → M.serves stage.new graph.now kept }
-    ensures fits { M.fits stage.old graph.now → M.fits stage.new graph.now }
+    ensures keeps { KeepsStage M.columns M.states M.last M.serves M.fits graph.now stage.old stage.new }
     ensures did { M.did (Placed graph.now node (letter ∷ [])) stage.old stage.new }
 {
     stage.place(graph, node, &[letter]);

@@ -1,16 +1,10 @@
 //! Reports: how many groups and texts there are, and how many texts were new.
 
 ghost use Rattle.std.specs.Prelude.{◌≡◌, ◌≤◌, ◌+◌, List, IfErr, OnOk};
-ghost use Rattle.group_text.specs.Texts.{GroupTextData};
-ghost use Rattle.circuit_texts.specs.Building.{HasTexts};
-ghost use Rattle.printed_lines.specs.declared.lines.TheConstants.{COLUMN_ROOM, REPORT_LINE_ROOM};
+ghost use Rattle.cosmos_session.specs.Words.{GroupTextData, HasTexts, COLUMN_ROOM, REPORT_LINE_ROOM, Shared, ObeysInAllOn, IsReported};
+ghost use Rattle.cosmos_session.specs.Words.{IsSinkFault, faults_applied, refusals_sent, IsDoneAndSent};
 ghost use Rattle.script_lang.specs.declared.command.Command.TheVariants as family;
 ghost use Rattle.script_lang.specs.declared.command.Run.TheVariants as asked;
-ghost use Rattle.column_script.specs.declared.command.ColumnCommand.TheVariants.{Shared};
-ghost use Rattle.session_meaning.specs.Columns.{ObeysInAllOn};
-ghost use Rattle.session_meaning.specs.Effects.{IsReported};
-ghost use Rattle.session_meaning.specs.Sinks.{IsSinkFault, faults_applied, refusals_sent};
-ghost use Rattle.session_meaning.specs.Outcomes.{IsDoneAndSent};
 
 use crate::session::Session;
 use crate::waves::tell_line;

@@ -1,30 +1,17 @@
 //! The commands that have the circuit built: unit steps, phases and cycles of all columns, and their rows of waveform lines.
 
-ghost use Rattle.std.specs.Prelude.{◌≡◌, ◌<◌, ◌≤◌, ◌+◌, ℕ, ◌*◌, false, List, [], ◌∷◌, length, replicate, slice_index_or, slice_set, All, IfErr, OnOk};
+ghost use Rattle.std.specs.Prelude.{◌≡◌, ◌<◌, ◌≤◌, ◌+◌, ℕ, ◌*◌, false, [], ◌∷◌, length, replicate, slice_index_or, slice_set, All, IfErr, OnOk};
 ghost use Rattle.std.specs.List.{range_with_len};
-ghost use Rattle.switch_paths.specs.Graphs.{nodes};
-ghost use Rattle.switch_paths.specs.Step.{IsStep};
-ghost use Rattle.switch_paths.specs.Switching.{state_at};
-ghost use Rattle.switch_paths.specs.declared.TheConstants.{RAILS};
-ghost use Rattle.settling.specs.declared.settling.Settled.{Settled};
-ghost use Rattle.settling.specs.Settling.{Settles};
-ghost use Rattle.group_text.specs.Texts.{GroupTextData};
-ghost use Rattle.printed_lines.specs.declared.lines.TheConstants.{COLUMN_ROOM, WAVE_LINE_ROOM};
-ghost use Rattle.told_lines.specs.Hearing.{Hears};
+ghost use Rattle.cosmos_session.specs.Words.{nodes, IsStep, state_at, RAILS, Settled, Settles, COLUMN_ROOM, WAVE_LINE_ROOM, Hears};
+ghost use Rattle.cosmos_session.specs.Words.{IsFormedRun, Shared, IsSharedRun, Leads, Placed, Rested, Stepped, AreSound, MovesInAll};
+ghost use Rattle.cosmos_session.specs.Words.{ObeysInAllOn, TakesBeatsInAll, column_of, count_in, waves_of, one_more, places_in};
+ghost use Rattle.cosmos_session.specs.Words.{IsPhasePass, IsStepPass, IsUnseen, KnowsButClocks, RunThrough, Sees, SeesBeats, SeesPass};
+ghost use Rattle.cosmos_session.specs.Words.{IsHeldSession, places_of, IsSinkFault, faults_applied, refusals_sent, ObeysOn, SameSetup};
+ghost use Rattle.cosmos_session.specs.Words.{acts_of_clocks};
 ghost use Rattle.script_lang.specs.declared.command.Command.TheVariants as family;
 ghost use Rattle.script_lang.specs.declared.command.Run.TheVariants as asked;
-ghost use Rattle.script_lang.specs.Forms.{IsFormedRun};
-ghost use Rattle.column_script.specs.declared.command.ColumnCommand.TheVariants.{Shared};
-ghost use Rattle.column_script.specs.Commands.{IsSharedRun};
-ghost use Rattle.column_stage.specs.Acts.{Leads, Placed, Rested, Stepped};
-ghost use Rattle.column_stage.specs.Columns.{AreSound};
-ghost use Rattle.session_meaning.specs.Columns.{MovesInAll, ObeysInAllOn, TakesBeatsInAll, column_of, count_in, waves_of};
+ghost use Rattle.cosmos_session.specs.Keeping.{KeepsStage};
 ghost use Rattle.session_meaning.specs.Effects as effect;
-ghost use Rattle.session_meaning.specs.Effects.{one_more, places_in};
-ghost use Rattle.session_meaning.specs.Passing.{IsPhasePass, IsStepPass, IsUnseen, KnowsButClocks, RunThrough, Sees, SeesBeats, SeesPass};
-ghost use Rattle.session_meaning.specs.Sessions.{IsHeldSession, places_of};
-ghost use Rattle.session_meaning.specs.Sinks.{IsSinkFault, faults_applied, refusals_sent};
-ghost use Rattle.session_meaning.specs.Stages.{ObeysOn, SameSetup, acts_of_clocks};
 
 use crate::placing::put_in_all;
 use crate::putting::begin_at;
@@ -415,13 +402,9 @@ fn put_states<M: Stage>(clocks: &[Clock], place: usize, graph: &Graph, stage: &m
     requires within { All (λ clock. clock.node < nodes graph.now) clocks.now }
     requires free { All (λ clock. RAILS ≤ clock.node) clocks.now }
     requires places { All (λ clock. place < length clock.states) clocks.now }
-    ensures columns { M.columns stage.new ≡ M.columns stage.old }
     ensures states { (column : ℕ) → column < M.columns stage.old
         → M.states stage.new column ≡ effect.states_with clocks.now place (M.states stage.old column) }
-    ensures sound { AreSound graph.now (M.columns stage.new) (M.states stage.new) }
-    ensures last { M.last stage.new ≡ M.last stage.old }
-    ensures serves { (kept : List GroupTextData) → M.serves stage.old graph.now kept → M.serves stage.new graph.now kept }
-    ensures fits { M.fits stage.old graph.now → M.fits stage.new graph.now }
+    ensures keeps { KeepsStage M.columns M.states M.last M.serves M.fits graph.now stage.old stage.new }
     ensures did { Leads M.did stage.old (acts_of_clocks graph.now clocks.now place) stage.new }
 {
     for clock in clocks {
@@ -436,12 +419,8 @@ fn put_state<M: Stage>(clock: &Clock, place: usize, graph: &Graph, stage: &mut M
     requires within { clock.now.node < nodes graph.now }
     requires free { RAILS ≤ clock.now.node }
     requires place { place < length clock.now.states }
-    ensures columns { M.columns stage.new ≡ M.columns stage.old }
     ensures states { (column : ℕ) → column < M.columns stage.old → M.states stage.new column ≡ slice_set (M.states stage.old column) clock.now.node (state_at clock.now.states place) }
-    ensures sound { AreSound graph.now (M.columns stage.new) (M.states stage.new) }
-    ensures last { M.last stage.new ≡ M.last stage.old }
-    ensures serves { (kept : List GroupTextData) → M.serves stage.old graph.now kept → M.serves stage.new graph.now kept }
-    ensures fits { M.fits stage.old graph.now → M.fits stage.new graph.now }
+    ensures keeps { KeepsStage M.columns M.states M.last M.serves M.fits graph.now stage.old stage.new }
     ensures did { M.did (Placed graph.now clock.now.node (state_at clock.now.states place ∷ [])) stage.old stage.new }
 {
     put_in_all(graph, clock.node, clock.states[place], stage);

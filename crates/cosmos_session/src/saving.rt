@@ -1,20 +1,13 @@
 //! States that are kept under names, and given back.
 
 ghost use Rattle.std.specs.Prelude.{◌≡◌, ◌<◌, ◌≤◌, List, length, position, slice_set, option_map, OnOk, OnErr};
-ghost use Rattle.switch_paths.specs.Graphs.{nodes};
-ghost use Rattle.switch_paths.specs.Rails.{IsSound};
-ghost use Rattle.switch_paths.specs.Switching.{state_at};
-ghost use Rattle.switch_paths.specs.declared.TheConstants.{RAILS};
+ghost use Rattle.cosmos_session.specs.Words.{nodes, IsSound, state_at, RAILS, LeadsBy, IsSoundState, GroupTextData, Quietly, GivesOn};
+ghost use Rattle.cosmos_session.specs.Words.{GivesOther, PlacesOther};
 ghost use Rattle.script_lang.specs.declared.command.Command.TheVariants as family;
 ghost use Rattle.script_lang.specs.declared.command.Give.TheVariants as given;
 ghost use Rattle.script_lang.specs.declared.command.Setup.TheVariants as asked;
-ghost use Rattle.column_stage.specs.Acts.{LeadsBy};
-ghost use Rattle.column_stage.specs.Columns.{IsSoundState};
-ghost use Rattle.group_text.specs.Texts.{GroupTextData};
-ghost use Rattle.session_meaning.specs.Outcomes.{Quietly};
 ghost use Rattle.session_meaning.specs.Refusals as refused;
 ghost use Rattle.session_meaning.specs.Saves as spec;
-ghost use Rattle.session_meaning.specs.Stages.{GivesOn, GivesOther, PlacesOther};
 
 use crate::placing::put_node;
 use crate::session::Session;

@@ -172,19 +172,21 @@ impl<M: PlainStage> Session<M> {
         }
     }
 
-    /// A session at its start over another circuit, in which what this one keeps is kept still, without a bound. Its stage may hold on to what
-    /// this one's has.
-    /// Out of memory both are dropped.
-    pub fn restart(self, circuit: Circuit) -> Result<Session<M>, NoMemory>
-        ensures core { IfOk result (λ session. session.core ≡ record (start_of circuit) { kept = self.core.kept }) }
+    /// A session at its start over a copy of another circuit, in which what this one keeps is kept still, without a bound. Its stage may hold on
+    /// to what this one's has, and the names of its circuit are this one's, if they are the same.
+    /// Out of memory this one is dropped.
+    pub fn restart(self, start: &Circuit) -> Result<Session<M>, NoMemory>
+        ensures core { IfOk result (λ session. session.core ≡ record (start_of start.now) { kept = self.core.kept }) }
         ensures starts { IfOk result (λ session. M.starts session.stage) }
     {
         let Session {
             alloc,
+            circuit,
             stage,
             mut kept,
             ..
         } = self;
+        let circuit = start.copy_over(alloc, circuit)?;
         stage.use_last(&mut kept);
         kept.set_bound(None);
         let state = first_states(alloc, &circuit)?;

@@ -1,14 +1,11 @@
 //! The commands that set what later ones go by.
 
 ghost use Rattle.std.specs.Prelude.{◌≡◌, ◌<◌, ◌≤◌, is_some, true, map, All, IfOk};
-ghost use Rattle.switch_paths.specs.Graphs.{nodes};
+ghost use Rattle.cosmos_session.specs.Words.{nodes, AreBeats, IsFormedSetup, IsTimes, IsSharedSetup, Quietly};
 ghost use Rattle.netlist.specs.Names.{node_of};
 ghost use Rattle.script_lang.specs.declared.command.Command.TheVariants as family;
 ghost use Rattle.script_lang.specs.declared.command.Setup.TheVariants as asked;
-ghost use Rattle.script_lang.specs.Forms.{AreBeats, IsFormedSetup, IsTimes};
-ghost use Rattle.column_script.specs.Commands.{IsSharedSetup};
 ghost use Rattle.session_meaning.specs.Effects as effect;
-ghost use Rattle.session_meaning.specs.Outcomes.{Quietly};
 
 use crate::naming::few_nodes;
 use crate::refusals;
@@ -28,13 +25,9 @@ impl<M: PlainStage> Session<M> {
         ensures stage { self.new.stage ≡ self.old.stage }
     {
         match setup {
-            Setup::Watch(names) => self.watch(names),
-            Setup::Limit(number) => self.set_limit(*number),
-            Setup::Clock(list) => self.set_clocks(list),
             Setup::Keep(number) => self.set_bound(*number),
-            Setup::Widen(number) => self.set_large(*number),
             Setup::Save(name) => self.save(name),
-            Setup::Vector(name, words) => self.set_vector(name, words),
+            _ => self.set_up_alike(setup),
         }
     }
 }

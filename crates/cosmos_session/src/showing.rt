@@ -1,11 +1,8 @@
 //! The state behind a command, as an onlooker is shown it: a look at those nodes alone that may have changed.
 
 ghost use Rattle.std.specs.Prelude.{◌≡◌, length, map, IfSome, OnOk, OnErr};
-ghost use Rattle.settling.specs.PlainStepping.{numbers_from};
+ghost use Rattle.cosmos_session.specs.Words.{numbers_from, Edit, SessionData, KnowsBehind};
 ghost use Rattle.script_lang.specs.declared.command.Command.TheVariants as family;
-ghost use Rattle.script_lang.specs.declared.command.Edit.{Edit};
-ghost use Rattle.session_meaning.specs.Sessions.{SessionData};
-ghost use Rattle.session_meaning.specs.Passing.{KnowsBehind};
 ghost use Rattle.cosmos_session.specs.Showing.{IsGivenBy};
 
 use crate::session::Session;

@@ -2,19 +2,12 @@
 
 ghost use Rattle.std.specs.Prelude.{◌≡◌, ◌≤◌, ◌<◌, ◌^◌, ℕ, List, [], ◌∷◌, ◌++◌, None, map, length, All, IfErr, IfOk, OnOk};
 ghost use Rattle.std.specs.List.{cons_option, list_all};
-ghost use Rattle.group_text.specs.Texts.{GroupTextData};
-ghost use Rattle.switch_paths.specs.Graphs.{nodes};
-ghost use Rattle.switch_paths.specs.Switching.{state_at};
-ghost use Rattle.told_lines.specs.Lines.{AreInRoom, room_of};
+ghost use Rattle.cosmos_session.specs.Words.{GroupTextData, nodes, state_at, AreInRoom, room_of, given_refusal, nodes_named, none_at};
+ghost use Rattle.cosmos_session.specs.Words.{values_refusal, IsSinkFault, faults_applied, refusals_sent, AreShortLists, ObeysOn, Sent};
+ghost use Rattle.cosmos_session.specs.Words.{letters_given, IsFaultFor};
 ghost use Rattle.script_lang.specs.declared.command.Command.TheVariants as family;
 ghost use Rattle.script_lang.specs.declared.command.Tell.TheVariants as asked;
 ghost use Rattle.session_meaning.specs.Effects as effect;
-ghost use Rattle.session_meaning.specs.Refusals.{given_refusal, nodes_named, none_at, values_refusal};
-ghost use Rattle.session_meaning.specs.Sinks.{IsSinkFault, faults_applied, refusals_sent};
-ghost use Rattle.session_meaning.specs.Stages.{AreShortLists, ObeysOn};
-ghost use Rattle.session_meaning.specs.Outcomes.{Sent};
-ghost use Rattle.node_values.specs.Givings.{letters_given};
-ghost use Rattle.session_meaning.specs.Preparing.{IsFaultFor};
 
 use crate::naming::count_of;
 use crate::refusals;

@@ -1,30 +1,18 @@
 //! A session over a stage that may run out, as a symbolic script has one: what is done in all columns at once.
 
-ghost use Rattle.std.specs.Prelude.{◌≡◌, ℕ, ◌<◌, ◌≤◌, None, List, length, slice_set, All, IfErr, IfOk, OnErr, OnOk};
-ghost use Rattle.switch_paths.specs.Graphs.{nodes};
-ghost use Rattle.switch_paths.specs.Step.{IsStep};
-ghost use Rattle.switch_paths.specs.Switching.{state_at};
-ghost use Rattle.switch_paths.specs.declared.TheConstants.{RAILS};
-ghost use Rattle.column_settling.specs.Together.{SettleTogether};
-ghost use Rattle.group_text.specs.Texts.{GroupTextData};
+ghost use Rattle.std.specs.Prelude.{◌≡◌, ℕ, ◌<◌, ◌≤◌, length, slice_set, All, IfErr, IfOk, OnErr, OnOk};
+ghost use Rattle.cosmos_session.specs.Words.{nodes, IsStep, state_at, RAILS, SettleTogether, IsSharedSetup, AreSound, KeepsGiven};
+ghost use Rattle.cosmos_session.specs.Words.{BeatInAll, StepInAll, column_of, assigned, one_more, states_with, with_beat, places_of};
+ghost use Rattle.cosmos_session.specs.Words.{GivenInAll, QuietlyInEach, RanOut, ReadiesInAll, SettledTogether, StaysInAll};
+ghost use Rattle.cosmos_session.specs.Words.{letters_in_column};
 ghost use Rattle.script_lang.specs.Forms as form;
 ghost use Rattle.script_lang.specs.declared.command.Command.TheVariants as family;
-ghost use Rattle.column_script.specs.Commands.{IsSharedSetup};
-ghost use Rattle.column_stage.specs.Columns.{AreSound};
-ghost use Rattle.column_stage.specs.Truths.{KeepsGiven};
-ghost use Rattle.session_meaning.specs.Columns.{BeatInAll, StepInAll, column_of};
-ghost use Rattle.session_meaning.specs.Effects.{assigned, one_more, states_by, states_with, with_beat};
-ghost use Rattle.session_meaning.specs.Preparing.{IsFaultFor};
-ghost use Rattle.session_meaning.specs.Refusals.{refusal_of};
-ghost use Rattle.session_meaning.specs.Sessions.{places_of};
-ghost use Rattle.session_meaning.specs.Truths.{GivenInAll, QuietlyInEach, RanOut, ReadiesInAll, SettledTogether, StaysInAll, give_of, letters_in_column};
+ghost use Rattle.cosmos_session.specs.Keeping.{KeepsStage};
 
-use crate::columns::target_of;
 use crate::session::Session;
 use analysis_cache::Analyst;
-use column_script::ValueCommand;
 use column_stage::{TruthStage, Work};
-use script_lang::{Edit, Setup, ValueList};
+use script_lang::{Edit, Setup};
 use session_meaning::{ApplyFault, Clock};
 use settling::Settled;
 use switch_paths::Graph;
@@ -61,22 +49,6 @@ impl<M: TruthStage> Session<M> {
         ensures fits { OnOk result (M.fits self.new.stage self.new.core.circuit.graph) }
     {
         self.make_ready(analyst)
-    }
-
-    /// The nodes that a command gives states, from left to right, by the values that it has in one column, each with its state
-    /// there; or why the command is refused, which doesn't depend on the column.
-    pub fn values_allowed(
-        &self,
-        kind: ValueCommand,
-        list: &ValueList,
-    ) -> Result<Vec<(usize, Tern)>, ApplyFault>
-        ensures allowed { OnOk result (refusal_of self.now.core (give_of kind list.now) ≡ None) }
-        ensures states { IfOk result (λ states. states.items ≡ states_by self.now.core.circuit self.now.core.vectors list.now) }
-        ensures within { IfOk result (λ states. All (λ pair. pair.0 < nodes self.now.core.circuit.graph) states.items) }
-        ensures refused { IfErr result (IsFaultFor (refusal_of self.now.core (give_of kind list.now))) }
-    {
-        let target = target_of(kind);
-        self.states_for(list, target)
     }
 
     /// Gives these nodes, none of which is a rail, their letters in each column, from left to right.
@@ -228,13 +200,9 @@ fn put_pairs<M: TruthStage>(graph: &Graph, pairs: &[(usize, M::Given)], stage: &
     requires within { All (λ pair. pair.0 < nodes graph.now) pairs.now }
     requires past { All (λ pair. RAILS ≤ pair.0) pairs.now }
     requires own { All (λ pair. M.gives stage.old pair.1) pairs.now }
-    ensures columns { M.columns stage.new ≡ M.columns stage.old }
     ensures states { (column : ℕ) → column < M.columns stage.old
         → M.states stage.new column ≡ assigned (M.states stage.old column) (letters_in_column M.letter_of stage.old pairs.now column) }
-    ensures sound { AreSound graph.now (M.columns stage.new) (M.states stage.new) }
-    ensures last { M.last stage.new ≡ M.last stage.old }
-    ensures serves { (kept : List GroupTextData) → M.serves stage.old graph.now kept → M.serves stage.new graph.now kept }
-    ensures fits { M.fits stage.old graph.now → M.fits stage.new graph.now }
+    ensures keeps { KeepsStage M.columns M.states M.last M.serves M.fits graph.now stage.old stage.new }
     ensures kept { KeepsGiven M.columns M.gives M.letter_of M.bound stage.old stage.new }
 {
     for pair in pairs {
@@ -248,12 +216,8 @@ fn put_given<M: TruthStage>(graph: &Graph, node: usize, given: M::Given, stage: 
     requires inside { node < nodes graph.now }
     requires no_rail { RAILS ≤ node }
     requires own { M.gives stage.old given }
-    ensures columns { M.columns stage.new ≡ M.columns stage.old }
     ensures states { (column : ℕ) → column < M.columns stage.old → M.states stage.new column ≡ slice_set (M.states stage.old column) node (M.letter_of stage.old given column) }
-    ensures sound { AreSound graph.now (M.columns stage.new) (M.states stage.new) }
-    ensures last { M.last stage.new ≡ M.last stage.old }
-    ensures serves { (kept : List GroupTextData) → M.serves stage.old graph.now kept → M.serves stage.new graph.now kept }
-    ensures fits { M.fits stage.old graph.now → M.fits stage.new graph.now }
+    ensures keeps { KeepsStage M.columns M.states M.last M.serves M.fits graph.now stage.old stage.new }
     ensures kept { KeepsGiven M.columns M.gives M.letter_of M.bound stage.old stage.new }
 {
     stage.put(graph, node, given);
@@ -265,13 +229,9 @@ fn put_beats<M: TruthStage>(clocks: &[Clock], place: usize, graph: &Graph, stage
     requires within { All (λ clock. clock.node < nodes graph.now) clocks.now }
     requires free { All (λ clock. RAILS ≤ clock.node) clocks.now }
     requires places { All (λ clock. place < length clock.states) clocks.now }
-    ensures columns { M.columns stage.new ≡ M.columns stage.old }
     ensures states { (column : ℕ) → column < M.columns stage.old
         → M.states stage.new column ≡ states_with clocks.now place (M.states stage.old column) }
-    ensures sound { AreSound graph.now (M.columns stage.new) (M.states stage.new) }
-    ensures last { M.last stage.new ≡ M.last stage.old }
-    ensures serves { (kept : List GroupTextData) → M.serves stage.old graph.now kept → M.serves stage.new graph.now kept }
-    ensures fits { M.fits stage.old graph.now → M.fits stage.new graph.now }
+    ensures keeps { KeepsStage M.columns M.states M.last M.serves M.fits graph.now stage.old stage.new }
     ensures kept { KeepsGiven M.columns M.gives M.letter_of M.bound stage.old stage.new }
 {
     for clock in clocks {
@@ -285,13 +245,9 @@ fn put_beat<M: TruthStage>(clock: &Clock, place: usize, graph: &Graph, stage: &m
     requires within { clock.now.node < nodes graph.now }
     requires free { RAILS ≤ clock.now.node }
     requires place { place < length clock.now.states }
-    ensures columns { M.columns stage.new ≡ M.columns stage.old }
     ensures states { (column : ℕ) → column < M.columns stage.old
         → M.states stage.new column ≡ slice_set (M.states stage.old column) clock.now.node (state_at clock.now.states place) }
-    ensures sound { AreSound graph.now (M.columns stage.new) (M.states stage.new) }
-    ensures last { M.last stage.new ≡ M.last stage.old }
-    ensures serves { (kept : List GroupTextData) → M.serves stage.old graph.now kept → M.serves stage.new graph.now kept }
-    ensures fits { M.fits stage.old graph.now → M.fits stage.new graph.now }
+    ensures keeps { KeepsStage M.columns M.states M.last M.serves M.fits graph.now stage.old stage.new }
     ensures kept { KeepsGiven M.columns M.gives M.letter_of M.bound stage.old stage.new }
 {
     put_alike(graph, clock.node, clock.states[place], stage);
@@ -302,12 +258,8 @@ fn put_alike<M: TruthStage>(graph: &Graph, node: usize, state: Tern, stage: &mut
     requires sound { AreSound graph.now (M.columns stage.old) (M.states stage.old) }
     requires inside { node < nodes graph.now }
     requires no_rail { RAILS ≤ node }
-    ensures columns { M.columns stage.new ≡ M.columns stage.old }
     ensures states { (column : ℕ) → column < M.columns stage.old → M.states stage.new column ≡ slice_set (M.states stage.old column) node state }
-    ensures sound { AreSound graph.now (M.columns stage.new) (M.states stage.new) }
-    ensures last { M.last stage.new ≡ M.last stage.old }
-    ensures serves { (kept : List GroupTextData) → M.serves stage.old graph.now kept → M.serves stage.new graph.now kept }
-    ensures fits { M.fits stage.old graph.now → M.fits stage.new graph.now }
+    ensures keeps { KeepsStage M.columns M.states M.last M.serves M.fits graph.now stage.old stage.new }
     ensures kept { KeepsGiven M.columns M.gives M.letter_of M.bound stage.old stage.new }
 {
     let given = stage.alike(state);

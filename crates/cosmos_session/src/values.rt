@@ -1,17 +1,13 @@
 //! What assignments give nodes, and why they are refused.
 
 ghost use Rattle.std.specs.Prelude.{◌≡◌, ◌<◌, [], ◌∷◌, ◌++◌, ℕ, None, Ok, All, Option, IfErr, IfOk, OnOk};
-ghost use Rattle.switch_paths.specs.Graphs.{nodes};
-ghost use Rattle.netlist.specs.Circuits.{IsCircuit};
-ghost use Rattle.node_words.specs.Vectors.{AreWithin};
+ghost use Rattle.cosmos_session.specs.Words.{nodes, IsCircuit, AreWithin, letters_in, states_by, IsFaultFor};
 ghost use Rattle.node_values.specs.Givings as giving;
 ghost use Rattle.session_meaning.specs.Refusals as spec;
-ghost use Rattle.session_meaning.specs.Effects.{letters_in, states_by};
-ghost use Rattle.session_meaning.specs.Preparing.{IsFaultFor};
 ghost use Rattle.cosmos_session.specs.Targets.{target_at};
 
 use netlist::{Circuit, RAILS};
-use node_values::{GivenFault, is_misplaced, letters_given};
+use node_values::{GivenFault, is_misplaced, letters_given, one_given};
 use node_words::Vectors;
 use script_lang::{Name, Value};
 use session_meaning::{ApplyFault, Refusal};
@@ -61,10 +57,42 @@ pub(crate) fn all_states(
 {
     let mut states = Vec::new(alloc);
     for (name, value) in list {
-        let pairs = pairs_given(alloc, circuit, vectors, name.items(), value)?;
-        add_states(circuit, target, &pairs, &mut states)?;
+        add_given(
+            alloc,
+            circuit,
+            vectors,
+            name.items(),
+            value,
+            target,
+            &mut states,
+        )?;
     }
     Ok(states)
+}
+
+// Puts the states that an assignment gives nodes behind others, unless it is refused.
+fn add_given(
+    alloc: Global,
+    circuit: &Circuit,
+    vectors: &Vectors,
+    name: &[u8],
+    value: &Value,
+    target: Target,
+    states: &mut Vec<(usize, Tern)>,
+) -> Result<(), ApplyFault>
+    requires netlist { IsCircuit circuit.now }
+    requires within { AreWithin (nodes circuit.now.graph) vectors.now }
+    ensures allowed { OnOk result (spec.given_refusal (target_at target circuit.now) (giving.letters_given circuit.now vectors.now (name.now, value.now)) ≡ None) }
+    ensures states { OnOk result (states.new.items ≡ states.old.items
+        ++ giving.states_given (letters_in (giving.letters_given circuit.now vectors.now (name.now, value.now)))) }
+    ensures refused { IfErr result (IsFaultFor
+        (spec.given_refusal (target_at target circuit.now) (giving.letters_given circuit.now vectors.now (name.now, value.now)))) }
+{
+    if let Some((node, state)) = one_given(circuit, vectors, name, value) {
+        return add_state(circuit, target, node, Some(state), states);
+    }
+    let pairs = pairs_given(alloc, circuit, vectors, name, value)?;
+    add_states(circuit, target, &pairs, states)
 }
 
 /// The letters that an assignment gives nodes. The refusals are those by the name and the value.

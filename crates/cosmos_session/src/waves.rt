@@ -2,13 +2,9 @@
 //! a row is told.
 
 ghost use Rattle.std.specs.Prelude.{◌≡◌, ◌<◌, ◌≤◌, ℕ, ◌+◌, ◌*◌, ◌^◌, ◌++◌, [], ◌∷◌, length, map, false, replicate, vec_len, vec_capacity, All, IfErr, IfOk, OnOk};
-ghost use Rattle.switch_paths.specs.Switching.{state_at};
-ghost use Rattle.printed_lines.specs.declared.lines.TheConstants.{COLUMN_ROOM, MOST_VALUES, WAVE_LINE_ROOM};
-ghost use Rattle.told_lines.specs.Hearing.{Hears, row_of};
-ghost use Rattle.told_lines.specs.Lines.{Shown, Wave, IsShort, room_of, line_seen};
-ghost use Rattle.told_lines.specs.Rows.{count_at, values_at, wave_row};
-ghost use Rattle.session_meaning.specs.Sinks.{IsSinkFault, faults_applied, refusals_sent};
-ghost use Rattle.session_meaning.specs.Outcomes.{Sent};
+ghost use Rattle.cosmos_session.specs.Words.{state_at, COLUMN_ROOM, MOST_VALUES, WAVE_LINE_ROOM, Hears, row_of, Shown, Wave, IsShort};
+ghost use Rattle.cosmos_session.specs.Words.{room_of, line_seen, count_at, values_at, wave_row, IsSinkFault, faults_applied, refusals_sent};
+ghost use Rattle.cosmos_session.specs.Words.{Sent};
 
 use column_stage::Stage;
 use session_meaning::{ApplyFault, MOST_WATCHED};

@@ -9,10 +9,9 @@ loop-name-preserved c =
     let circuit = c.args.circuit.now in
     let vectors = c.args.vectors.now in
     let names = c.args.names.now in
-    let place = c.loop-name.name-index in
     given-next c.loop-name.list.items (nodes_named circuit vectors c.name-item.result) c.add_nodes.new.list.items
-    (all_named circuit vectors (drop place names)) (all_named circuit vectors (drop (place + 1) names)) (all_named circuit vectors names)
-    c.loop-name.invariant (all_named-next circuit vectors names place c.name-item.result (omega arith) c.name-item.is)
+    (all_named circuit vectors (drop c.loop-name.name-index names)) (all_named circuit vectors (drop (c.loop-name.name-index + 1) names)) (all_named circuit vectors names)
+    c.loop-name.invariant (all_named-next circuit vectors names c.loop-name.name-index c.name-item.result (omega arith) c.name-item.is)
     (rw c.items.ensures at c.in_ok-add_nodes.ensures)
 
 pub returns : goal.returns

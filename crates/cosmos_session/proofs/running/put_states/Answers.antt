@@ -7,21 +7,19 @@ use Rattle.session_meaning.specs.Effects.{states_with}
 use Rattle.session_meaning.specs.Sessions.{ClockData}
 use Rattle.session_meaning.specs.Stages.{acts_of_clocks}
 use Rattle.session_meaning.proofs.StateLemmas.{states_with-more}
+use Rattle.cosmos_session.proofs.StageLemmas.{keeps_stage-both, keeps_stage-none}
 use Rattle.cosmos_session.proofs.running.put_states.Goals as goal
 
 pub loop-clock-init : goal.loop-clock-init
 loop-clock-init g c = record {
-  columns = refl;
   states = λ column inside. refl;
-  sound = c.requires.sound;
-  last = refl;
-  serves = λ kept serving. serving;
-  fits = λ fits. fits;
+  keeps = keeps_stage-none g.M.Columns.columns g.M.Columns.states g.M.Columns.last g.M.Columns.serves g.M.Columns.fits c.args.graph.now
+      c.args.stage.now c.requires.sound;
   did = λ end rest. rest;
 }
 
 pub put_state-requires-clause-some : goal.put_state-requires-clause-some
-put_state-requires-clause-some g c = subst (λ (n : ℕ). 1 ≤ n) (sym c.loop-clock.invariant.columns) c.requires.some
+put_state-requires-clause-some g c = subst (λ (n : ℕ). 1 ≤ n) (sym c.loop-clock.invariant.keeps.count) c.requires.some
 
 pub loop-clock-preserved : goal.loop-clock-preserved
 loop-clock-preserved g c =
@@ -32,15 +30,12 @@ loop-clock-preserved g c =
     let place = c.args.place in
     let inside : k < length clocks = omega arith in
     record {
-      columns = c.put_state.ensures.columns ∙ c.loop-clock.invariant.columns;
       states = λ column there.
-          let within : column < g.M.Columns.columns c.loop-clock.stage = subst (λ (n : ℕ). column < n) (sym c.loop-clock.invariant.columns) there in
+          let within : column < g.M.Columns.columns c.loop-clock.stage = subst (λ (n : ℕ). column < n) (sym c.loop-clock.invariant.keeps.count) there in
           states_with-more clocks k place clock (g.M.Columns.states c.loop-clock.stage column) (g.M.Columns.states c.put_state.new.stage column) inside c.clock-item.is
           (c.put_state.ensures.states column within) ∙ c.loop-clock.invariant.states column there;
-      sound = c.put_state.ensures.sound;
-      last = c.put_state.ensures.last ∙ c.loop-clock.invariant.last;
-      serves = λ kept serving. c.put_state.ensures.serves kept (c.loop-clock.invariant.serves kept serving);
-      fits = λ fits. c.put_state.ensures.fits (c.loop-clock.invariant.fits fits);
+      keeps = keeps_stage-both g.M.Columns.columns g.M.Columns.states g.M.Columns.last g.M.Columns.serves g.M.Columns.fits graph
+          c.args.stage.now c.loop-clock.stage c.put_state.new.stage c.loop-clock.invariant.keeps c.put_state.ensures.keeps;
       did = λ end rest. c.loop-clock.invariant.did end
           (subst (λ (acts : List Act). Leads g.M.Columns.did c.loop-clock.stage acts end)
           (sym (acts_next (λ (one : ClockData). Placed graph one.node (state_at one.states place ∷ [])) clocks k clock inside c.clock-item.is))

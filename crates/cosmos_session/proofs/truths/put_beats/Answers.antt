@@ -5,16 +5,14 @@ use Rattle.column_stage.proofs.GivenLemmas.{keeps_more, keeps_none}
 use Rattle.session_meaning.specs.Effects.{states_with}
 use Rattle.session_meaning.specs.Sessions.{ClockData}
 use Rattle.session_meaning.proofs.StateLemmas.{states_with-more}
+use Rattle.cosmos_session.proofs.StageLemmas.{keeps_stage-both, keeps_stage-none}
 use Rattle.cosmos_session.proofs.truths.put_beats.Goals as goal
 
 pub loop-clock-init : goal.loop-clock-init
 loop-clock-init g c = record {
-  columns = refl;
   states = λ column inside. refl;
-  sound = c.requires.sound;
-  last = refl;
-  serves = λ kept serving. serving;
-  fits = λ fits. fits;
+  keeps = keeps_stage-none g.M.Columns.columns g.M.Columns.states g.M.Columns.last g.M.Columns.serves g.M.Columns.fits c.args.graph.now
+      c.args.stage.now c.requires.sound;
   kept = keeps_none g.M.Columns.columns g.M.TruthStage.gives g.M.TruthStage.letter_of g.M.TruthStage.bound c.args.stage.now;
 }
 
@@ -27,17 +25,14 @@ loop-clock-preserved g c =
     let k = c.loop-clock.clock-index in
     let inside : k < length clocks = omega arith in
     record {
-      columns = c.put_beat.ensures.columns ∙ c.loop-clock.invariant.columns;
       states = λ column within.
-          let there : column < g.M.Columns.columns now = subst (λ (n : ℕ). column < n) (sym c.loop-clock.invariant.columns) within in
+          let there : column < g.M.Columns.columns now = subst (λ (n : ℕ). column < n) (sym c.loop-clock.invariant.keeps.count) within in
           states_with-more clocks k c.args.place clock (g.M.Columns.states now column) (g.M.Columns.states next column) inside c.clock-item.is
           (c.put_beat.ensures.states column there)
           ∙ c.loop-clock.invariant.states column within;
-      sound = c.put_beat.ensures.sound;
-      last = c.put_beat.ensures.last ∙ c.loop-clock.invariant.last;
-      serves = λ kept serving. c.put_beat.ensures.serves kept (c.loop-clock.invariant.serves kept serving);
-      fits = λ fits. c.put_beat.ensures.fits (c.loop-clock.invariant.fits fits);
-      kept = keeps_more g.M.Columns.columns g.M.TruthStage.gives g.M.TruthStage.letter_of g.M.TruthStage.bound c.args.stage.now now next c.loop-clock.invariant.columns
+      keeps = keeps_stage-both g.M.Columns.columns g.M.Columns.states g.M.Columns.last g.M.Columns.serves g.M.Columns.fits c.args.graph.now
+          c.args.stage.now now next c.loop-clock.invariant.keeps c.put_beat.ensures.keeps;
+      kept = keeps_more g.M.Columns.columns g.M.TruthStage.gives g.M.TruthStage.letter_of g.M.TruthStage.bound c.args.stage.now now next c.loop-clock.invariant.keeps.count
           c.loop-clock.invariant.kept c.put_beat.ensures.kept;
     }
 

@@ -7,16 +7,14 @@ use Rattle.column_stage.proofs.GivenLemmas.{keeps_more, keeps_none}
 use Rattle.session_meaning.specs.Effects.{assigned}
 use Rattle.session_meaning.specs.Truths.{letters_in_column}
 use Rattle.session_meaning.proofs.TruthLemmas.{letters_more}
+use Rattle.cosmos_session.proofs.StageLemmas.{keeps_stage-both, keeps_stage-none}
 use Rattle.cosmos_session.proofs.truths.put_pairs.Goals as goal
 
 pub loop-pair-init : goal.loop-pair-init
 loop-pair-init g c = record {
-  columns = refl;
   states = λ column inside. refl;
-  sound = c.requires.sound;
-  last = refl;
-  serves = λ kept serving. serving;
-  fits = λ fits. fits;
+  keeps = keeps_stage-none g.M.Columns.columns g.M.Columns.states g.M.Columns.last g.M.Columns.serves g.M.Columns.fits c.args.graph.now
+      c.args.stage.now c.requires.sound;
   kept = keeps_none g.M.Columns.columns g.M.TruthStage.gives g.M.TruthStage.letter_of g.M.TruthStage.bound c.args.stage.now;
 }
 
@@ -28,18 +26,17 @@ put_given-requires-clause-own g c =
 
 pub loop-pair-preserved : goal.loop-pair-preserved
 loop-pair-preserved g c =
+    let list = c.args.pairs.now in
+    let k = c.loop-pair.pair-index in
+    let inside : k < length list = omega arith in
     let start = c.args.stage.now in
     let now = c.loop-pair.stage in
     let next = c.put_given.new.stage in
-    let list = c.args.pairs.now in
-    let k = c.loop-pair.pair-index in
     let pair = c.pair-item.result in
-    let inside : k < length list = omega arith in
     let own = subst (λ (one : ℕ × _). g.M.TruthStage.gives start one.1) (sym c.pair-item.is) (c.requires.own k pair inside) in
     record {
-      columns = c.put_given.ensures.columns ∙ c.loop-pair.invariant.columns;
       states = λ column within.
-          let there : column < g.M.Columns.columns now = subst (λ (n : ℕ). column < n) (sym c.loop-pair.invariant.columns) within in
+          let there : column < g.M.Columns.columns now = subst (λ (n : ℕ). column < n) (sym c.loop-pair.invariant.keeps.count) within in
           let state = g.M.Columns.states now column in
           let set : g.M.Columns.states next column ≡ slice_set state pair.0 (g.M.TruthStage.letter_of start pair.1 column) =
           c.put_given.ensures.states column there
@@ -47,11 +44,9 @@ loop-pair-preserved g c =
           letters_more (λ given. g.M.TruthStage.letter_of start given column) list k pair state (g.M.Columns.states next column)
           inside c.pair-item.is set
           ∙ c.loop-pair.invariant.states column within;
-      sound = c.put_given.ensures.sound;
-      last = c.put_given.ensures.last ∙ c.loop-pair.invariant.last;
-      serves = λ kept serving. c.put_given.ensures.serves kept (c.loop-pair.invariant.serves kept serving);
-      fits = λ fits. c.put_given.ensures.fits (c.loop-pair.invariant.fits fits);
-      kept = keeps_more g.M.Columns.columns g.M.TruthStage.gives g.M.TruthStage.letter_of g.M.TruthStage.bound start now next c.loop-pair.invariant.columns
+      keeps = keeps_stage-both g.M.Columns.columns g.M.Columns.states g.M.Columns.last g.M.Columns.serves g.M.Columns.fits c.args.graph.now
+          c.args.stage.now now next c.loop-pair.invariant.keeps c.put_given.ensures.keeps;
+      kept = keeps_more g.M.Columns.columns g.M.TruthStage.gives g.M.TruthStage.letter_of g.M.TruthStage.bound start now next c.loop-pair.invariant.keeps.count
           c.loop-pair.invariant.kept c.put_given.ensures.kept;
     }
 

@@ -19,29 +19,30 @@ put_states-requires-clause-within g c = rw (c.graph.ensures.value, c.deref.ensur
 pub invariant_of-self : goal.invariant_of-self
 invariant_of-self g c =
     let session = session_of c.self.invariant.0 in
+    let keeps = rw c.graph.ensures.value at c.put_states.ensures.keeps in
     stage_moved g.M.Columns.columns g.M.Columns.states g.M.Columns.serves g.M.Columns.last (texts_of c.self.inside.kept) session
     c.put_states.new.stage
-    session.core.count c.self.invariant refl c.put_states.ensures.last c.put_states.ensures.columns
-    (rw c.graph.ensures.value at c.put_states.ensures.sound)
-    (rw c.graph.ensures.value at c.put_states.ensures.serves)
+    session.core.count c.self.invariant refl c.put_states.ensures.keeps.texts c.put_states.ensures.keeps.count
+    keeps.sound keeps.serving
 
 pub returns-clause-beat : goal.returns-clause-beat
 returns-clause-beat g c =
     let table = texts_of c.self.inside.kept in
     rw (← c.self.view_is)
     (core_given (session_of c.self.invariant.0).core _ _ _ ((rw c.deref.ensures.value at c.put_states.ensures.states) 0 (first_of_some _ c.self.invariant.0.some))
-    (used_same _ _ table c.put_states.ensures.last))
+    (used_same _ _ table c.put_states.ensures.keeps.texts))
 
 pub returns-clause-fits : goal.returns-clause-fits
 returns-clause-fits g c =
-    (rw c.graph.ensures.value at c.put_states.ensures.fits)
+    let keeps = rw c.graph.ensures.value at c.put_states.ensures.keeps in
+    keeps.fitting
     (subst (λ (s : HeldSession _). g.M.Columns.fits s.stage s.core.circuit.graph) (sym c.self.view_is) c.requires.fits)
 
 pub returns-clause-stage : goal.returns-clause-stage
 returns-clause-stage g c = rw (← c.self.view_is) (rw (c.graph.ensures.value, c.deref.ensures.value) at c.put_states.ensures.did)
 
 pub returns-clause-columns : goal.returns-clause-columns
-returns-clause-columns g c = rw (← c.self.view_is) c.put_states.ensures.columns
+returns-clause-columns g c = rw (← c.self.view_is) c.put_states.ensures.keeps.count
 
 pub returns-clause-states : goal.returns-clause-states
 returns-clause-states g c = rw (← c.self.view_is) (rw c.deref.ensures.value at c.put_states.ensures.states)

@@ -4,11 +4,11 @@ use Rattle.ternary.specs.declared.tern.Tern.{Tern}
 use Rattle.switch_paths.specs.declared.TheConstants.{RAILS}
 use Rattle.netlist.specs.Edits.{node_named}
 use Rattle.netlist.specs.Names.{node_of}
-use Rattle.analysis_cache.specs.Keeping.{texts_of}
 use Rattle.column_stage.specs.Columns.{IsLetters}
+use Rattle.analysis_cache.specs.Keeping.{texts_of}
 use Rattle.session_meaning.specs.Sessions.{HeldSession}
 use Rattle.session_meaning.proofs.StayingLemmas.{core_given, session_of}
-use Rattle.cosmos_session.proofs.StageLemmas.{stage_moved, used_same}
+use Rattle.cosmos_session.proofs.StageLemmas.{stage_stays, used_same}
 use Rattle.cosmos_session.proofs.session.Session.put_letters.Goals as goal
 
 pub place_letters-requires-clause-sound : goal.place_letters-requires-clause-sound
@@ -31,21 +31,16 @@ place_letters-requires-clause-past g c =
 
 pub invariant_of-self : goal.invariant_of-self
 invariant_of-self g c =
-    let session = session_of c.self.invariant.0 in
-    stage_moved g.M.Columns.columns g.M.Columns.states g.M.Columns.serves g.M.Columns.last (texts_of c.self.inside.kept) session c.place_letters.new.stage
-    session.core.count c.self.invariant refl c.place_letters.ensures.last c.place_letters.ensures.columns
-    c.place_letters.ensures.sound
-    c.place_letters.ensures.serves
-
-pub returns-clause-core : goal.returns-clause-core
-returns-clause-core g c =
-    let core = (session_of c.self.invariant.0).core in
-    let state = g.M.Columns.states c.place_letters.new.stage 0 in
-    let table = texts_of c.self.inside.kept in
-    rw (← c.self.view_is) (core_given core state state _ refl (used_same _ _ table c.place_letters.ensures.last))
+    let e = c.place_letters.ensures in
+    stage_stays g.M.Columns.last (texts_of c.self.inside.kept) c.place_letters.new.stage c.self.invariant refl e.last e.columns refl e.sound e.serves
 
 pub returns-clause-stage : goal.returns-clause-stage
 returns-clause-stage g c = rw (← c.self.view_is) c.place_letters.ensures.did
 
 pub returns-clause-columns : goal.returns-clause-columns
 returns-clause-columns g c = rw (← c.self.view_is) c.place_letters.ensures.columns
+
+pub returns-clause-core : goal.returns-clause-core
+returns-clause-core g c =
+    let state = g.M.Columns.states c.place_letters.new.stage 0 in
+    rw (← c.self.view_is) (core_given (session_of c.self.invariant.0).core state state _ refl (used_same _ _ (texts_of c.self.inside.kept) c.place_letters.ensures.last))

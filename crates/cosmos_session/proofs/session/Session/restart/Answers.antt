@@ -1,5 +1,6 @@
 -- The texts of the last build stand in front of what is kept, and count as standing there; so the stage serves the other circuit too.
 use Rattle.std.proofs.Common.{◌≡◌, List, sym, ap, subst, ◌∙◌}
+use Rattle.netlist.specs.Circuits.{CircuitData}
 use Rattle.group_text.specs.Texts.{GroupTextData}
 use Rattle.group_analysis.specs.Using.{used_texts}
 use Rattle.analysis_cache.specs.Keeping.{KeptData, texts_of}
@@ -20,7 +21,7 @@ over_stage-requires g c =
     let last = c.again-again.ensures.last in
     let held : IsHeldSession g.M.Columns.columns g.M.Columns.states g.M.Columns.serves c.args.self =
     subst (IsHeldSession g.M.Columns.columns g.M.Columns.states g.M.Columns.serves) c.self.view_is c.self.invariant.0 in
-    let served = c.again-again.ensures.serves c.args.self.core.circuit.graph c.args.circuit.graph c.args.self.core.kept
+    let served = c.again-again.ensures.serves c.args.self.core.circuit.graph c.in_ok-circuit.circuit.graph c.args.self.core.kept
     (subst (λ stage. g.M.Columns.serves stage c.args.self.core.circuit.graph c.args.self.core.kept) (sym (ap (λ (s : HeldSession _). s.stage) c.self.view_is)) held.served) in
     let front : used_texts (g.M.Columns.last c.again-again.result) table ≡ table =
     ap (λ (texts : List GroupTextData). used_texts texts table) last ∙ sym (kept_alone table) in
@@ -29,13 +30,14 @@ over_stage-requires g c =
       one = c.again-again.ensures.one;
       state = c.again-again.ensures.state ∙ c.in_ok-state.ensures;
       last = last;
-      serves = subst (g.M.Columns.serves c.again-again.result c.args.circuit.graph) (sym (front ∙ kept)) served;
+      serves = subst (g.M.Columns.serves c.again-again.result c.in_ok-circuit.circuit.graph) (sym (front ∙ kept)) served;
     }
 
 pub returns-clause-core : goal.returns-clause-core
 returns-clause-core g c =
     c.over_stage.ensures.core
-    ∙ ap (λ (texts : List GroupTextData). record (start_of c.args.circuit) { kept = texts }) (kept_is g (goal.at.returns-clause-core g c).After-set_bound)
+    ∙ ap (λ (texts : List GroupTextData). record (start_of c.in_ok-circuit.circuit) { kept = texts }) (kept_is g (goal.at.returns-clause-core g c).After-set_bound)
+    ∙ ap (λ (circuit : CircuitData). record (start_of circuit) { kept = c.args.self.core.kept }) c.in_ok-circuit.ensures
 
 pub returns-clause-starts : goal.returns-clause-starts
 returns-clause-starts g c = subst g.M.PlainStage.starts (sym c.over_stage.ensures.stage) c.again-again.ensures.starts
