@@ -1,18 +1,19 @@
 -- A machine that is led from graph to graph between runs: where its run is over, where it starts again, and where it was led and finished.
-use Rattle.std.proofs.Common.{◌≡◌, true, false, List, length, Option, None, Some, refl, sym, ap, subst, ◌∙◌}
+use Rattle.std.proofs.Common.{◌≡◌, ℕ, ◌↔◌, true, false, List, length, Option, None, Some, refl, sym, ap, subst, ◌∙◌}
 use Rattle.std.specs.Prelude.{IfSome, is_some}
 use Rattle.ternary.specs.declared.tern.Tern.{Tern}
 use Rattle.switch_paths.specs.Graphs.{GraphData}
 use Rattle.switch_paths.specs.Rails.{IsSound}
 use Rattle.group_text.specs.Texts.{GroupTextData}
 use Rattle.vicinity.specs.NodeSets.{NodeSetData}
+use Rattle.machine_parts.specs.Parts.{HasMember}
 use Rattle.machine_laws.specs.Machines.{MachineData}
 use Rattle.machine_laws.specs.Fitting.{Covers, IsKeptBy}
 use Rattle.machine_laws.specs.Editing.{KeepsCoded}
 use Rattle.unit_step.specs.Restarting.{MarksParts, Restarts}
-use Rattle.edits_between.specs.Leading.{CodedAreAlike, LedBy, last_in}
+use Rattle.edits_between.specs.Leading.{CodedAreAlike, EarlyAreAlike, LedBy, last_in}
 use Rattle.beside.specs.Fitting.{all_marked}
-use Rattle.beside_run.specs.Running.{HasUncoded}
+use Rattle.beside_run.specs.Running.{HasLater}
 use Rattle.beside_run.proofs.RunningLemmas.{marked_is}
 use Rattle.beside_run.proofs.TouchingLemmas.{alike_finished}
 use Rattle.fault_stage.specs.declared.built.Built.{Built}
@@ -57,10 +58,10 @@ covers_again g state None covered = tt
 covers_again g state (Some machine) covered = covered.covered.covers
 
 -- it was led
-pub led_there : (f g h : GraphData) (state : List Tern) (old new : Option MachineData) → IsSound state → IfSome old (IsCoveredIn f state) →
-    is_some new ≡ true → LedBy f g h old new → IsLedIn g h state new
-led_there f g h state None new sound covered there (none, alike) = absurd (let is : is_some new ≡ false = ap is_some none in cc (is, there))
-led_there f g h state (Some old) new sound covered there ((machine, is, led), alike) =
+pub led_there : (f g h : GraphData) (count : ℕ) (state : List Tern) (old new : Option MachineData) → IsSound state → IfSome old (IsCoveredIn f state) →
+    is_some new ≡ true → LedBy f g h count old new → IsLedIn g h count state new
+led_there f g h count state None new sound covered there (none, alike, early) = absurd (let is : is_some new ≡ false = ap is_some none in cc (is, there))
+led_there f g h count state (Some old) new sound covered there ((machine, is, led), alike, early) =
     let known : IsKeptBy h old.last machine = led.known old.last covered.covered.known in
     let state_is = led.state ∙ covered.state_is in
     record {
@@ -74,40 +75,45 @@ led_there f g h state (Some old) new sound covered there ((machine, is, led), al
         };
         state_is = state_is;
         alike = subst (λ (slot : Option MachineData). IfSome slot (CodedAreAlike g h)) is alike;
+        early = subst (λ (slot : Option MachineData). IfSome slot (EarlyAreAlike g count h)) is early;
       };
     }
 
 -- so it covers the graph that it was led to
-pub last_run_led : (l : LastRun) (base g : GraphData) (state : List Tern) → l.graph ≡ g → IsLedIn base g state l.machine → IsLastRun l
-last_run_led l base g state graph led covered =
+pub last_run_led : (l : LastRun) (base g : GraphData) (count : ℕ) (state : List Tern) → l.graph ≡ g → IsLedIn base g count state l.machine → IsLastRun l
+last_run_led l base g count state graph led covered =
     subst (λ (slot : Option MachineData). IfSome slot (IsCovered l.graph)) (sym led.there)
     (subst (λ (f : GraphData). IsCovered f led.machine) (sym graph) led.led.covered)
 
 -- the machine that is there was led
-pub led_machine : (base g : GraphData) (state : List Tern) (found : Option MachineData) (machine : MachineData) → found ≡ Some machine →
-    IsLedIn base g state found → IsLed base g state machine
-led_machine base g state found machine is led =
+pub led_machine : (base g : GraphData) (count : ℕ) (state : List Tern) (found : Option MachineData) (machine : MachineData) → found ≡ Some machine →
+    IsLedIn base g count state found → IsLed base g count state machine
+led_machine base g count state found machine is led =
     let same : Some led.machine ≡ Some machine = sym led.there ∙ is in
     let one : led.machine ≡ machine = cc in
-    subst (IsLed base g state) one led.led
+    subst (IsLed base g count state) one led.led
 
 -- and there is one
-pub led_some : (base g : GraphData) (state : List Tern) (found : Option MachineData) → found ≡ None → IsLedIn base g state found → ⊥
-led_some base g state found none led = let same : Some led.machine ≡ None = sym led.there ∙ none in absurd (cc (same))
+pub led_some : (base g : GraphData) (count : ℕ) (state : List Tern) (found : Option MachineData) → found ≡ None → IsLedIn base g count state found → ⊥
+led_some base g count state found none led = let same : Some led.machine ≡ None = sym led.there ∙ none in absurd (cc (same))
 
--- once it was finished, the parts that had code stand alike in both graphs
-pub touched_finished : (base g : GraphData) (state : List Tern) (m new : MachineData) (touched : NodeSetData) → IsLed base g state m → HasUncoded m touched →
-    length m.marks ≡ length m.parts → length new.marks ≡ length new.parts → KeepsCoded m new → IsTouched base g new touched
-touched_finished base g state m new touched led has counted counted_new keeps =
-    let count : length new.parts ≡ length m.parts = sym counted_new ∙ ap length keeps.marks ∙ counted in
-    record { counted = has.counted ∙ sym count; alike = alike_finished base g m new touched led.alike has count keeps }
+-- once it was finished, the parts that it had there stand alike in both graphs
+pub touched_finished : (base g : GraphData) (count : ℕ) (state : List Tern) (m new : MachineData) (touched : NodeSetData) → IsLed base g count state m →
+    HasLater count m touched → length m.marks ≡ length m.parts → length new.marks ≡ length new.parts → KeepsCoded m new →
+    ((k node : ℕ) → HasMember new.parts k node ↔ HasMember m.parts k node) → IsTouched base g new touched
+touched_finished base g count state m new touched led has counted counted_new keeps members =
+    let same : length new.parts ≡ length m.parts = sym counted_new ∙ ap length keeps.marks ∙ counted in record {
+      counted = has.counted ∙ sym same;
+      alike = alike_finished base g count m new touched led.early led.covered.covers has same members;
+    }
 
 -- where it is known which these are
-pub touched_if : (base g : GraphData) (state : List Tern) (m new : MachineData) (found : Option NodeSetData) → IsLed base g state m →
-    IfSome found (HasUncoded m) → length m.marks ≡ length m.parts → length new.marks ≡ length new.parts → KeepsCoded m new →
-    IfSome found (IsTouched base g new)
-touched_if base g state m new None led has counted counted_new keeps = tt
-touched_if base g state m new (Some touched) led has counted counted_new keeps = touched_finished base g state m new touched led has counted counted_new keeps
+pub touched_if : (base g : GraphData) (count : ℕ) (state : List Tern) (m new : MachineData) (found : Option NodeSetData) → IsLed base g count state m →
+    IfSome found (HasLater count m) → length m.marks ≡ length m.parts → length new.marks ≡ length new.parts → KeepsCoded m new →
+    ((k node : ℕ) → HasMember new.parts k node ↔ HasMember m.parts k node) → IfSome found (IsTouched base g new)
+touched_if base g count state m new None led has counted counted_new keeps members = tt
+touched_if base g count state m new (Some touched) led has counted counted_new keeps members =
+    touched_finished base g count state m new touched led has counted counted_new keeps members
 
 -- its texts are those of the machine that was there
 pub texts_led : (old found : Option MachineData) (machine : MachineData) → found ≡ Some machine → texts_in found ≡ texts_in old → machine.last ≡ texts_in old

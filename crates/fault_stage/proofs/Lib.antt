@@ -2,5 +2,6 @@ pub mod FrontLemmas
 pub mod KnownLemmas
 pub mod BuildingLemmas
 pub mod CourseLemmas
+pub mod PassingLemmas
 pub mod LeadingLemmas
 pub mod StayingLemmas

@@ -1,3 +1,4 @@
 pub mod Stages
+pub mod Passing
 pub mod Runs
 pub mod Building

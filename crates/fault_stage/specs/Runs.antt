@@ -1,13 +1,13 @@
 -- What a stage holds whose first run is recorded: a machine that is recorded, or goes beside the record, or by itself.
 -- After Bryant and Schuster, "Performance Evaluation of FMOSSIM, a Concurrent Switch-Level Fault Simulator", 1985.
-use Rattle.std.specs.Prelude.{◌≡◌, ℕ, Bool, true, List, length, Option, Some, IfSome}
+use Rattle.std.specs.Prelude.{◌≡◌, ℕ, Bool, true, List, length, All, Option, Some, IfSome}
 use Rattle.ternary.specs.declared.tern.Tern.{Tern}
 use Rattle.switch_paths.specs.Graphs.{GraphData, nodes}
 use Rattle.switch_paths.specs.Rails.{IsRailed, IsSound}
 use Rattle.vicinity.specs.NodeSets.{NodeSetData}
 use Rattle.machine_laws.specs.Machines.{MachineData}
 use Rattle.machine_laws.specs.Fitting.{Covers, FitsGraph, IsKeptBy}
-use Rattle.edits_between.specs.Leading.{CodedAreAlike}
+use Rattle.edits_between.specs.Leading.{CodedAreAlike, EarlyAreAlike}
 use Rattle.good_phases.specs.declared.beats.Beat.{Beat}
 use Rattle.good_phases.specs.Phases.{GoodData, IsBeat}
 use Rattle.beside_run.specs.Running.{AreAlikeBut, BesideData, ComesNext, IsRunBeside}
@@ -17,6 +17,7 @@ use Rattle.fault_stage.specs.declared.built.Built.{Built}
 use Rattle.fault_stage.specs.declared.waiting.LastRun.{LastRun}
 use Rattle.fault_stage.specs.declared.held.Held.{Held}
 use Rattle.fault_stage.specs.declared.held.Held.TheVariants as held
+use Rattle.fault_stage.specs.Passing.{IsPassed}
 use Rattle.fault_stage.specs.Stages.{SettlesSeen}
 
 -- the machine goes by itself in this state
@@ -43,6 +44,7 @@ pub record IsBuilt (b : Built) : Type 0 where
   pub sound : IsSound b.state.items
   pub known : IsKeptBy b.graph b.machine.last b.machine
   pub goes : GoesIn b.good b.graph b.machine b.state.items b.course
+  pub passes : All (IsPassed b.graph) b.passes.items
 
 -- a machine covers a graph, in a sound state, and each text whose code a part has is one of its last build
 pub record IsCovered (g : GraphData) (m : MachineData) : Type 0 where
@@ -87,17 +89,19 @@ pub record IsCoveredIn (g : GraphData) (state : List Tern) (m : MachineData) : T
   pub covered : IsCovered g m
   pub state_is : m.state ≡ state
 
--- a machine was led to a graph from another one, in which each part that has code is that of a group that stands alike there
-pub record IsLed (base g : GraphData) (state : List Tern) (m : MachineData) : Type 0 where
+-- a machine was led to a graph from another one, in which it had so many parts: each of these, and each part that has code, is that of a group that
+-- stands alike there
+pub record IsLed (base g : GraphData) (count : ℕ) (state : List Tern) (m : MachineData) : Type 0 where
   pub covered : IsCovered g m
   pub state_is : m.state ≡ state
   pub alike : CodedAreAlike base g m
+  pub early : EarlyAreAlike base count g m
 
 -- there is such a machine
-pub record IsLedIn (base g : GraphData) (state : List Tern) (found : Option MachineData) : Type 0 where
+pub record IsLedIn (base g : GraphData) (count : ℕ) (state : List Tern) (found : Option MachineData) : Type 0 where
   pub machine : MachineData
   pub there : found ≡ Some machine
-  pub led : IsLed base g state machine
+  pub led : IsLed base g count state machine
 
 -- these parts are apart in a run that begins: each other one stands alike in both graphs
 pub record IsTouched (base g : GraphData) (m : MachineData) (touched : NodeSetData) : Type 0 where

@@ -5,11 +5,11 @@ ghost use Rattle.std.specs.Bool.{OnTrue};
 ghost use Rattle.switch_paths.specs.Rails.{IsSound};
 ghost use Rattle.machine_laws.specs.Fitting.{FitsGraph};
 ghost use Rattle.machine_laws.specs.Machines.{KeepsBuild, KeepsParts};
-ghost use Rattle.beside_run.specs.Running.{HasUncoded};
+ghost use Rattle.beside_run.specs.Running.{HasLater};
 ghost use Rattle.fault_stage.specs.Runs.{GoesIn, IsTouched};
 
 use crate::built::Course;
-use beside_run::{begin, uncoded};
+use beside_run::{begin, later_parts};
 use good_phases::GoodPhases;
 use std::alloc::Global;
 use switch_paths::Graph;
@@ -17,12 +17,12 @@ use ternary::Tern;
 use unit_step::Machine;
 use vicinity::NodeSet;
 
-/// The parts of a machine that was led to a graph and isn't finished yet which may stand otherwise there than in the good run's, if there is memory for
-/// them.
-pub(crate) fn touched_in(alloc: Global, machine: &Machine) -> Option<NodeSet>
-    ensures { IfSome result (HasUncoded machine.now) }
+/// The parts of a machine which may stand otherwise in the graph that it was led to than in the good run's, where it had so many, if there is memory
+/// for them.
+pub(crate) fn touched_in(alloc: Global, machine: &Machine, count: usize) -> Option<NodeSet>
+    ensures { IfSome result (HasLater count machine.now) }
 {
-    match uncoded(alloc, machine) {
+    match later_parts(alloc, machine, count) {
         Ok(touched) => Some(touched),
         Err(_) => None,
     }

@@ -16,6 +16,7 @@ ghost use Rattle.fault_stage.specs.Stages.{Plain, Ready, ServesIn, ServesReady, 
 use crate::beginning::{course_of, touched_in};
 use crate::built::{Built, Course};
 use crate::held::Held;
+use crate::passing::no_passes;
 use crate::waiting::{LastRun, Waiting};
 use analysis_cache::{Analyst, Kept};
 use circuit_texts::BuildFault;
@@ -207,6 +208,7 @@ fn build_recorded<A: Analyst>(
                 good,
                 large,
                 course: Course::Recorded,
+                passes: no_passes(alloc),
             };
             (Held::Built(built), Ok(fresh))
         }
@@ -250,7 +252,8 @@ fn build_next<A: Analyst>(
         ⊎ (TellsRefused large graph.now fault × (kept.new ≡ kept.old) × (A.analysed analyst.new ≡ A.analysed analyst.old))) }
 {
     let mut last_run = last_run;
-    if !last_run.lead(graph, &state) {
+    let mut count = 0;
+    if !last_run.lead(graph, &state, &mut count) {
         let waiting = Waiting {
             state,
             last_run: Some(last_run),
@@ -269,7 +272,9 @@ fn build_next<A: Analyst>(
     if is_sparse(&machine) {
         return build_fresh(alloc, state, machine, own, good, large, kept, analyst);
     }
-    finish(alloc, state, machine, own, good, large, kept, analyst)
+    finish(
+        alloc, state, machine, own, good, large, count, kept, analyst,
+    )
 }
 
 // Whether most of a machine's parts, and more than 16, were left by groups that are gone.
@@ -309,6 +314,7 @@ fn build_fresh<A: Analyst>(
                 good,
                 large,
                 course: Course::Alone,
+                passes: no_passes(alloc),
             };
             (Held::Built(built), Ok(fresh))
         }
@@ -328,7 +334,7 @@ fn build_fresh<A: Analyst>(
     }
 }
 
-// Has a machine finished that was led to a graph; its run goes beside the recorded one then.
+// Has a machine finished that was led to a graph by way of the good run's, where it had so many parts; its run goes beside the recorded one then.
 fn finish<A: Analyst>(
     alloc: Global,
     state: Vec<Tern>,
@@ -336,10 +342,11 @@ fn finish<A: Analyst>(
     graph: Graph,
     good: GoodPhases,
     large: usize,
+    count: usize,
     kept: &mut Kept,
     analyst: &mut A,
 ) -> (Held, Result<u64, BuildFault>)
-    requires led { IsLed good.graph graph state.items machine }
+    requires led { IsLed good.graph graph count state.items machine }
     requires railed { IsRailed graph }
     requires sound { IsSoundState graph state.items }
     requires front { StandInFront machine.last (texts_of kept.old) }
@@ -358,6 +365,7 @@ fn finish<A: Analyst>(
         &graph,
         &good,
         large,
+        count,
         kept,
         analyst,
     ) {
@@ -369,6 +377,7 @@ fn finish<A: Analyst>(
                 good,
                 large,
                 course,
+                passes: no_passes(alloc),
             };
             (Held::Built(built), Ok(fresh))
         }
@@ -397,10 +406,11 @@ fn finish_beside<A: Analyst>(
     graph: &Graph,
     good: &GoodPhases,
     large: usize,
+    count: usize,
     kept: &mut Kept,
     analyst: &mut A,
 ) -> Result<(Course, u64), BuildFault>
-    requires led { IsLed good.now.graph graph.now state.now machine.old }
+    requires led { IsLed good.now.graph graph.now count state.now machine.old }
     requires railed { IsRailed graph.now }
     requires front { StandInFront machine.old.last (texts_of kept.old) }
     ensures made { IfOk result (λ made. FinishesNext large graph.now kept.old.bound good.now state.now machine.new (texts_of kept.old) (texts_of kept.new) (A.analysed analyst.old) (A.analysed analyst.new) made.0 made.1) }
@@ -410,7 +420,7 @@ fn finish_beside<A: Analyst>(
         ⊎ (TellsRefused large graph.now fault × (kept.new ≡ kept.old) × (A.analysed analyst.new ≡ A.analysed analyst.old))) }
     ensures err { OnErr result (machine.new ≡ machine.old) }
 {
-    let touched = touched_in(alloc, machine);
+    let touched = touched_in(alloc, machine, count);
     machine.has_a_mark_for_each_part();
     match machine.finish(graph, large, Codes::Short, kept, analyst) {
         Ok(fresh) => {

@@ -14,6 +14,7 @@ ghost use Rattle.fault_stage.specs.Runs.{IsBuilt, IsLastRun};
 ghost use Rattle.fault_stage.specs.Stages.{SettlesSeen, ready_of, texts_in};
 
 use crate::moving::room_in;
+use crate::passing::Passed;
 use crate::placing::{go_alone, place_in};
 use crate::settling_beside::settle_in;
 use crate::waiting::LastRun;
@@ -48,6 +49,8 @@ pub(crate) struct Built {
     // Up to how many members groups without a text might have at the build.
     pub(crate) large: usize,
     pub(crate) course: Course,
+    // The phases that the machine took by itself and may take again.
+    pub(crate) passes: Vec<Passed>,
 }
 
 impl Built {
@@ -121,6 +124,7 @@ impl Built {
             &self.state,
             &mut self.good,
             course,
+            &mut self.passes,
             limit,
             onlooker,
         );

@@ -19,13 +19,13 @@ use ternary::{Steps, Tern};
 use unit_step::Machine;
 
 impl LastRun {
-    /// Leads the machine, if there is one, to a graph, by way of the good run's graph, in this state; answers whether it did. It doesn't if
-    /// the graphs aren't as large, or if memory lacks.
-    pub(crate) fn lead(&mut self, graph: &Graph, state: &[Tern]) -> bool
+    /// Leads the machine, if there is one, to a graph, by way of the good run's graph, where it had so many parts, in this state; answers whether it
+    /// did. It doesn't if the graphs aren't as large, or if memory lacks.
+    pub(crate) fn lead(&mut self, graph: &Graph, state: &[Tern], count: &mut usize) -> bool
         requires last_run { IsLastRun self.old }
         requires sound { IsSoundState graph.now state.now }
         ensures last_run { IsLastRun self.new }
-        ensures led { OnTrue result (IsLedIn self.new.good.graph graph.now state.now self.new.machine) }
+        ensures led { OnTrue result (IsLedIn self.new.good.graph graph.now count.new state.now self.new.machine) }
         ensures graph { OnTrue result (self.new.graph ≡ graph.now) }
         ensures texts { texts_in self.new.machine ≡ texts_in self.old.machine }
     {
@@ -39,6 +39,7 @@ impl LastRun {
             self.good.graph(),
             graph,
             state,
+            count,
         ) {
             return false;
         }
@@ -72,17 +73,18 @@ fn lead_in(
     way: &Graph,
     target: &Graph,
     state: &[Tern],
+    count: &mut usize,
 ) -> bool
     requires covered { IfSome slot.old (IsCovered graph.old) }
     requires there { IsAsLarge graph.old way.now }
     requires large { IsAsLarge way.now target.now }
     requires sound { IsSoundState target.now state.now }
-    ensures led { OnTrue result (IsLedIn way.now target.now state.now slot.new) }
+    ensures led { OnTrue result (IsLedIn way.now target.now count.new state.now slot.new) }
     ensures graph { OnTrue result (graph.new ≡ target.now) }
     ensures texts { texts_in slot.new ≡ texts_in slot.old }
 {
     restart_in(slot, graph, state);
-    if !lead_uncounted::<Brand>(slot, graph, way, target, Blank::new(1)) {
+    if !lead_uncounted::<Brand>(slot, graph, way, target, count, Blank::new(1)) {
         return false;
     }
     slot.is_some()
@@ -108,6 +110,7 @@ fn lead_uncounted<L: Ledger>(
     graph: &mut Graph,
     way: &Graph,
     target: &Graph,
+    count: &mut usize,
     blank: Blank,
 ) -> bool
     requires name { blank.name ≡ L.name }
@@ -116,9 +119,9 @@ fn lead_uncounted<L: Ledger>(
     requires covers { IfSome slot.old (Covers graph.old) }
     requires there { IsAsLarge graph.old way.now }
     requires large { IsAsLarge way.now target.now }
-    ensures led { OnTrue result (LedBy graph.old way.now target.now slot.old slot.new) }
+    ensures led { OnTrue result (LedBy graph.old way.now target.now count.new slot.old slot.new) }
     ensures graph { OnTrue result (graph.new ≡ target.now) }
     ensures last { last_in slot.new ≡ last_in slot.old }
 {
-    lead_by(slot, graph, way, target, &mut Steps::<L>::new(blank))
+    lead_by(slot, graph, way, target, count, &mut Steps::<L>::new(blank))
 }

@@ -23,6 +23,7 @@ mod columns;
 mod held;
 mod leading;
 mod moving;
+mod passing;
 mod placing;
 mod plain;
 mod settling_beside;

@@ -1,14 +1,16 @@
 //! A phase of a stage that is built.
 
-ghost use Rattle.std.specs.Prelude.{◌≡◌, ◌≢◌, ◌+◌, ◌-◌, ◌^◌, ◌<◌, ◌≤◌, length, IfSome};
+ghost use Rattle.std.specs.Prelude.{◌≡◌, ◌≢◌, ◌+◌, ◌-◌, ◌^◌, ◌<◌, ◌≤◌, length, All, IfSome};
 ghost use Rattle.std.specs.Bool.{OnTrue};
 ghost use Rattle.switch_paths.specs.Rails.{IsSound};
 ghost use Rattle.machine_laws.specs.Fitting.{FitsGraph};
 ghost use Rattle.beside_run.specs.Running.{IsRunBeside, SettlesRun};
 ghost use Rattle.good_phases.specs.Phases.{IsBeat, SettlesGood};
+ghost use Rattle.fault_stage.specs.Passing.{IsPassed};
 ghost use Rattle.fault_stage.specs.Runs.{GoesIn, GoesRecorded, SettlesIn, TakesNext};
 
 use crate::built::Course;
+use crate::passing::{Passed, settle_alone};
 use beside_run::{RunBeside, leave};
 use good_phases::{Beat, GoodPhases};
 use machine_stage::settle_to_rest;
@@ -28,6 +30,9 @@ const MOST_NODES: usize = 1_000_000_000_000;
 // So many steps more than twice the good run's looks may a phase take beside it, and the run goes on so.
 const MOST_MORE: u64 = 64;
 
+// If more than one part in so many groups is apart behind a phase, the run goes on by itself.
+const MOST_SHARE: usize = 2;
+
 /// Settles on its course, and answers how it goes on.
 pub(crate) fn settle_in<O: Onlooker>(
     machine: &mut Machine,
@@ -35,15 +40,18 @@ pub(crate) fn settle_in<O: Onlooker>(
     state: &[Tern],
     good: &mut GoodPhases,
     course: Course,
+    passes: &mut Vec<Passed>,
     limit: u64,
     onlooker: &mut O,
 ) -> (Course, Settled)
     requires goes { GoesIn good.old graph.now machine.old state.now course }
     requires sound { IsSound state.now }
+    requires passes { All (IsPassed graph.now) passes.old.items }
     requires low { 1 ≤ limit }
     requires high { limit ≤ MOST_LIMIT }
     requires knows { O.knows onlooker.old state.now }
     ensures settles { SettlesIn O.see graph.now limit result.1.steps result.1.joined state.now machine.old machine.new good.new result.0 (O.seen onlooker.old) (O.seen onlooker.new) }
+    ensures passes { All (IsPassed graph.now) passes.new.items }
     ensures knows { O.knows onlooker.new machine.new.state }
 {
     match course {
@@ -52,7 +60,7 @@ pub(crate) fn settle_in<O: Onlooker>(
             settle_next(machine, graph, state, good, run, next, limit, onlooker)
         }
         Course::Alone => {
-            let told = settle_to_rest(machine, graph, limit, onlooker);
+            let told = settle_alone(machine, graph, state, passes, limit, onlooker);
             (Course::Alone, told)
         }
     }
@@ -142,10 +150,8 @@ fn settle_next<O: Onlooker>(
                 Blank::new(1),
                 onlooker,
             );
-            (
-                Course::Beside(run, number_after(next, beat, told.steps)),
-                told,
-            )
+            let number = number_after(next, beat, told.steps, run.apart(), machine.groups());
+            (Course::Beside(run, number), told)
         }
         None => {
             leave(machine, graph, state);
@@ -155,9 +161,13 @@ fn settle_next<O: Onlooker>(
     }
 }
 
-// The number of the phase that may come next, behind one beside which a run took so many steps: none if these are far more than the
-// good run's, since by itself a machine passes over rounds of states.
-fn number_after(next: usize, beat: Beat, steps: u64) -> usize {
+// The number of the phase that may come next, behind one beside which a run took so many steps, and so many parts are apart: none if
+// the steps are far more than the good run's, since by itself a machine passes over rounds of states, or if the parts are many of so
+// many groups, since by itself a machine doesn't look at what the good run changes.
+fn number_after(next: usize, beat: Beat, steps: u64, apart: usize, groups: usize) -> usize {
+    if apart.saturating_mul(MOST_SHARE) > groups {
+        return usize::MAX;
+    }
     let looks = beat.end.saturating_sub(beat.begin) as u64;
     if steps > looks.saturating_mul(2).saturating_add(MOST_MORE) {
         return usize::MAX;

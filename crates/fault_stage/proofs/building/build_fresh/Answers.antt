@@ -1,6 +1,9 @@
 -- The machine was built, and goes by itself; or the one that was there still waits.
-use Rattle.std.proofs.Common.{true, Some, refl, ◌∙◌}
+use Rattle.std.proofs.Common.{true, Some, refl, sym, subst, ◌∙◌}
+use Rattle.std.specs.Prelude.{All}
+use Rattle.std.proofs.lemmas.List.Elements.{All-nil}
 use Rattle.analysis_cache.specs.Keeping.{texts_of}
+use Rattle.fault_stage.specs.Passing.{IsPassed}
 use Rattle.fault_stage.specs.Stages.{Waits, wait_of}
 use Rattle.fault_stage.proofs.BuildingLemmas.{built_ready, front_built, not_built}
 use Rattle.fault_stage.proofs.FrontLemmas.{cut_or_refused, front_cut}
@@ -22,6 +25,7 @@ returns-in-Ok-clause-well g c =
       known = known_by_last c.args.large c.args.graph c.args.kept.now.bound (texts_of c.args.kept.now) (texts_of c.build.new.kept) _ _ c.in-Ok.fresh c.in-Ok.made
           made.fits made.last made.builds;
       goes = record { fits = made.fits; state_is = made.fresh.0 ∙ c.deref.ensures.value };
+      passes = subst (All (IsPassed c.args.graph)) (sym c.no_passes.ensures) (All-nil _);
     }
 
 pub returns-in-Ok-clause-builds : goal.returns-in-Ok-clause-builds

@@ -29,12 +29,12 @@ returns-then-not-lead-clause-builds g c =
     refl c.lead.ensures.texts c.build_in_place.ensures.builds
 
 pub unreachable-requires : goal.unreachable-requires
-unreachable-requires g c = absurd (led_some _ c.args.graph.now _ _ c.in_default.is (OnTrue_at c.if-not-lead.false c.lead.ensures.led))
+unreachable-requires g c = absurd (led_some _ c.args.graph.now c.lead.new.count _ _ c.in_default.is (OnTrue_at c.if-not-lead.false c.lead.ensures.led))
 
 pub build_fresh-requires-clause-covered : goal.build_fresh-requires-clause-covered
 build_fresh-requires-clause-covered g c =
     let l = c.lead.new.self in
-    let led = led_machine l.good.graph c.args.graph.now c.deref.result.now l.machine c.in-Some.machine c.in-Some.is (OnTrue_at c.if-not-lead.false c.lead.ensures.led) in
+    let led = led_machine l.good.graph c.args.graph.now c.lead.new.count c.deref.result.now l.machine c.in-Some.machine c.in-Some.is (OnTrue_at c.if-not-lead.false c.lead.ensures.led) in
     subst (λ (h : GraphData). IsCovered h c.in-Some.machine) (sym (OnTrue_at c.if-not-lead.false c.lead.ensures.graph)) led.covered
 
 pub build_fresh-requires-clause-railed : goal.build_fresh-requires-clause-railed
@@ -65,9 +65,9 @@ returns-then-is_sparse-clause-refused g c =
 pub finish-requires-clause-led : goal.finish-requires-clause-led
 finish-requires-clause-led g c =
     let l = c.lead.new.self in
-    let led : IsLed l.good.graph c.args.graph.now c.deref.result.now c.in-Some.machine =
-    led_machine l.good.graph c.args.graph.now c.deref.result.now l.machine c.in-Some.machine c.in-Some.is (OnTrue_at c.if-not-lead.false c.lead.ensures.led) in
-    subst (λ (h : GraphData). IsLed l.good.graph h c.args.state.items c.in-Some.machine) (sym (OnTrue_at c.if-not-lead.false c.lead.ensures.graph))
+    let led : IsLed l.good.graph c.args.graph.now c.lead.new.count c.deref.result.now c.in-Some.machine =
+    led_machine l.good.graph c.args.graph.now c.lead.new.count c.deref.result.now l.machine c.in-Some.machine c.in-Some.is (OnTrue_at c.if-not-lead.false c.lead.ensures.led) in
+    subst (λ (h : GraphData). IsLed l.good.graph h c.lead.new.count c.args.state.items c.in-Some.machine) (sym (OnTrue_at c.if-not-lead.false c.lead.ensures.graph))
     (rw (← c.deref.ensures.value) led)
 
 pub finish-requires-clause-railed : goal.finish-requires-clause-railed

@@ -1,6 +1,9 @@
 -- The machine was built, and its run begins; or nothing is there that wasn't.
-use Rattle.std.proofs.Common.{None, length, refl, sym, ap, ◌∙◌}
+use Rattle.std.proofs.Common.{None, length, refl, sym, ap, subst, ◌∙◌}
+use Rattle.std.specs.Prelude.{All}
+use Rattle.std.proofs.lemmas.List.Elements.{All-nil}
 use Rattle.analysis_cache.specs.Keeping.{texts_of}
+use Rattle.fault_stage.specs.Passing.{IsPassed}
 use Rattle.fault_stage.specs.Stages.{Waits, wait_of}
 use Rattle.fault_stage.proofs.BuildingLemmas.{built_ready, front_built, not_built}
 use Rattle.fault_stage.proofs.FrontLemmas.{cut_or_refused, none_in_front}
@@ -28,6 +31,7 @@ returns-in-Ok-clause-well g c =
         graph = c.requires.begins.graph;
         known = ap length c.requires.begins.known ∙ sym (ap length state_is);
       };
+      passes = subst (All (IsPassed c.args.graph)) (sym c.no_passes.ensures) (All-nil _);
     }
 
 pub returns-in-Ok-clause-builds : goal.returns-in-Ok-clause-builds

@@ -1,8 +1,11 @@
 -- The machine goes on beside the record, or waits as before.
 use Rattle.std.proofs.Common.{true, Some, Err, refl, sym, subst}
+use Rattle.std.specs.Prelude.{All}
+use Rattle.std.proofs.lemmas.List.Elements.{All-nil}
 use Rattle.analysis_cache.specs.Keeping.{texts_of}
 use Rattle.machine_laws.specs.Machines.{MachineData}
 use Rattle.fault_stage.specs.Building.{BuildsStage}
+use Rattle.fault_stage.specs.Passing.{IsPassed}
 use Rattle.fault_stage.specs.Runs.{IsCovered}
 use Rattle.fault_stage.specs.Stages.{Waits, wait_of}
 use Rattle.fault_stage.proofs.BuildingLemmas.{built_ready, not_built}
@@ -20,6 +23,7 @@ returns-in-Ok-clause-well g c =
       sound = c.requires.sound.sound;
       known = made.known;
       goes = rw (← c.deref.ensures.value) made.goes;
+      passes = subst (All (IsPassed c.args.graph)) (sym c.no_passes.ensures) (All-nil _);
     }
 
 pub returns-in-Ok-clause-builds : goal.returns-in-Ok-clause-builds

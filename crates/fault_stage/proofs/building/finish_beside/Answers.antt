@@ -30,8 +30,8 @@ course_of-course-requires g c =
     let finishes = c.in-Ok.ensures.finishes in record {
       fits = finishes.fits;
       state = finishes.state ∙ c.requires.led.state_is;
-      touched = touched_if c.args.good.now.graph c.args.graph.now c.args.state.now c.args.machine.now c.finish.new.self c.touched_in-touched.result c.requires.led
-          c.touched_in-touched.ensures c.has_a_mark_for_each_part.ensures c.has_a_mark_for_each_part-in-Ok.ensures finishes.still;
+      touched = touched_if c.args.good.now.graph c.args.graph.now c.args.count c.args.state.now c.args.machine.now c.finish.new.self
+          c.touched_in-touched.result c.requires.led c.touched_in-touched.ensures c.has_a_mark_for_each_part.ensures c.has_a_mark_for_each_part-in-Ok.ensures finishes.still finishes.members;
     }
 
 pub returns-in-Ok-clause-made : goal.returns-in-Ok-clause-made

@@ -16,7 +16,7 @@ returns-then-not-lead_uncounted-clause-texts c =
 
 pub returns-clause-led : goal.returns-clause-led
 returns-clause-led c = OnTrue_from c.is_some.result _ (λ set.
-    led_there c.args.graph.now c.args.way.now c.args.target.now c.args.state.now c.restart_in.new.slot c.lead_uncounted.new.slot c.requires.sound.sound
+    led_there c.args.graph.now c.args.way.now c.args.target.now c.lead_uncounted.new.count c.args.state.now c.restart_in.new.slot c.lead_uncounted.new.slot c.requires.sound.sound
     c.restart_in.ensures.covered (sym c.is_some.ensures ∙ set) (OnTrue_at c.if-not-lead_uncounted.false c.lead_uncounted.ensures.led))
 
 pub returns-clause-graph : goal.returns-clause-graph

@@ -17,7 +17,7 @@ pub returns-in-Some-clause-settles : goal.returns-in-Some-clause-settles
 returns-in-Some-clause-settles g c =
     let told = c.beside_uncounted-told in
     settles_beside g.O.Observer.see c.args.graph.now c.args.limit told.result.steps told.result.joined c.args.state.now c.args.machine.now told.new.machine
-    (g.O.Observer.seen c.args.onlooker.now) (g.O.Observer.seen told.new.onlooker) c.args.good.now told.new.run c.number_after.result c.in-Some.beat.limit
+    (g.O.Observer.seen c.args.onlooker.now) (g.O.Observer.seen told.new.onlooker) c.args.good.now told.new.run c.number_after-number.result c.in-Some.beat.limit
     c.in-Some.ensures.comes.limit_is told.ensures.settles
 
 pub leave-requires : goal.leave-requires

@@ -20,6 +20,7 @@ returns-clause-built c = record {
   sound = sound-set c.args.self.now.state.items c.args.node c.args.value c.requires.no_rail c.requires.built.sound;
   known = c.place_in.ensures.known;
   goes = rw (← c.deref.ensures.value) c.place_in.ensures.gives.goes;
+  passes = c.requires.built.passes;
 }
 
 pub returns-clause-same : goal.returns-clause-same

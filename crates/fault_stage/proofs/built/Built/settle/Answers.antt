@@ -12,6 +12,7 @@ pub settle_in-course-requires : goal.settle_in-course-requires
 settle_in-course-requires g c = rw (c.deref.ensures.value, c.replace-course.ensures.value) (record {
   goes = c.requires.built.goes;
   sound = c.requires.built.sound;
+  passes = c.requires.built.passes;
   low = c.requires.low;
   high = c.requires.high;
   knows = c.requires.knows;
@@ -38,6 +39,7 @@ returns-clause-built g c =
       known = known_on b.graph b.machine settled.new.machine (fits_anyway b.good b.graph b.machine b.state.items b.course c.requires.built.goes) fits settles.last
           c.requires.built.known;
       goes = subst (λ (s : List Tern). GoesIn settled.new.good b.graph settled.new.machine s settled.result.0) (sym items) settles.goes;
+      passes = settled.ensures.passes;
     }
 
 pub returns-clause-same : goal.returns-clause-same

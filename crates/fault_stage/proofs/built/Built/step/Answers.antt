@@ -37,6 +37,7 @@ returns-clause-built g c =
       known = known_on b.graph b.machine c.take_step.new.machine (fits_anyway b.good b.graph b.machine b.state.items b.course c.requires.built.goes)
           (fits_marked b.graph c.take_step.new.machine takes.fits) (takes.last ∙ alone.last) c.requires.built.known;
       goes = subst (GoesIn b.good b.graph c.take_step.new.machine c.take_over.new.state.items) (sym c.replace-course.ensures.after) goes;
+      passes = c.requires.built.passes;
     }
 
 pub returns-clause-same : goal.returns-clause-same

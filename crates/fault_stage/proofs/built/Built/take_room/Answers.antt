@@ -15,6 +15,7 @@ returns-clause-built c =
       sound = subst IsSound (sym same) c.requires.sound;
       known = c.requires.known;
       goes = subst (λ (s : List Tern). GoesIn b.good b.graph b.machine s b.course) (sym same) c.requires.goes;
+      passes = c.requires.passes;
     }
 
 pub returns-clause-same : goal.returns-clause-same

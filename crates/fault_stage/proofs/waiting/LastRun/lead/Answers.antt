@@ -28,12 +28,12 @@ returns-then-not-lead_in-clause-last_run c = λ covered. absurd (cc (covered))
 pub returns-clause-last_run : goal.returns-clause-last_run
 returns-clause-last_run c =
     let run : LastRun = record { machine = c.lead_in.new.slot; covered = true; graph = c.lead_in.new.graph; good = c.args.self.now.good } in
-    last_run_led run c.graph.result.now c.args.graph.now c.args.state.now (OnTrue_at c.if-not-lead_in.false c.lead_in.ensures.graph)
+    last_run_led run c.graph.result.now c.args.graph.now c.lead_in.new.count c.args.state.now (OnTrue_at c.if-not-lead_in.false c.lead_in.ensures.graph)
     (OnTrue_at c.if-not-lead_in.false c.lead_in.ensures.led)
 
 pub returns-clause-led : goal.returns-clause-led
 returns-clause-led c =
-    subst (λ (way : GraphData). IsLedIn way c.args.graph.now c.args.state.now c.lead_in.new.slot) c.graph.ensures
+    subst (λ (way : GraphData). IsLedIn way c.args.graph.now c.lead_in.new.count c.args.state.now c.lead_in.new.slot) c.graph.ensures
     (OnTrue_at c.if-not-lead_in.false c.lead_in.ensures.led)
 
 pub returns-clause-graph : goal.returns-clause-graph
