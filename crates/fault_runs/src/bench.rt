@@ -1,10 +1,11 @@
 //! The bench on which the script is run under one fault after the other.
 
 ghost use Rattle.std.specs.Prelude.{◌≡◌, Some, IfOk};
-ghost use Rattle.fault_runs.specs.Words.{start_with, HasTraced, HasVisibleNames, IsFault, JudgesBy};
+ghost use Rattle.fault_runs.specs.Words.{start_of, start_with, HasTraced, HasVisibleNames, IsFault, JudgesBy};
 
 use crate::early::{calm_from, judge_under};
 use crate::good::GoodRun;
+use crate::lines::{ReadLines, read_lines};
 use column_stage::PlainStage;
 use cosmos_session::Session;
 use fault_sim::{Fault, Verdict};
@@ -21,6 +22,8 @@ pub(crate) struct FaultBench<'a, M: PlainStage> {
     alloc: Global,
     start: &'a Circuit,
     script: &'a [u8],
+    // The lines of the script, as they are read.
+    read: ReadLines,
     // The line of the script from which on nothing more is analysed, and what is kept stays, if there is one.
     calm_from: Option<u64>,
     // None while it runs, and after memory ran out: then nothing is kept.
@@ -32,12 +35,13 @@ impl<'a, M: PlainStage> Model for FaultBench<'a, M> {
     ghost use Rattle.netlist.specs.Circuits.{HasVisibleNames};
     ghost use Rattle.fault_meaning.specs.Early.{IsCalmFrom};
     ghost use Rattle.fault_meaning.specs.Runnings.{BenchData, kept_in};
+    ghost use Rattle.fault_runs.specs.Lines.{AreRead};
 
     ghost Value = { BenchData };
 
     ghost view = { λ bench. record { start = bench.start.now; script = bench.script.now; kept = kept_in bench.session } };
 
-    ghost invariant = { λ bench. HasVisibleNames bench.start.now × IfSome bench.calm_from (IsCalmFrom bench.script.now) };
+    ghost invariant = { λ bench. HasVisibleNames bench.start.now × AreRead bench.script.now bench.read × IfSome bench.calm_from (IsCalmFrom bench.script.now) };
 }
 
 impl<'a, M: PlainStage> FaultBench<'a, M> {
@@ -51,11 +55,13 @@ impl<'a, M: PlainStage> FaultBench<'a, M> {
         requires { HasVisibleNames start.now }
         ensures { IfOk result (λ bench. bench ≡ record { start = start.now; script = script.now; kept = session.core.kept }) }
     {
+        let read = read_lines(alloc, script)?;
         let calm_from = calm_from(alloc, script)?;
         Ok(FaultBench {
             alloc,
             start,
             script,
+            read,
             calm_from,
             session: Some(session),
         })
@@ -67,10 +73,9 @@ impl<'a, M: PlainStage> FaultBench<'a, M> {
         ensures start { self.new.start ≡ self.old.start }
         ensures script { self.new.script ≡ self.old.script }
     {
-        let circuit = self.start.copy(self.alloc)?;
         match self.session.take() {
-            Some(session) => session.restart(circuit),
-            None => Session::new(self.alloc, circuit),
+            Some(session) => session.restart(self.start),
+            None => new_session(self.alloc, self.start),
         }
     }
 
@@ -94,6 +99,7 @@ impl<'a, M: PlainStage> FaultBench<'a, M> {
             &mut session,
             self.start,
             self.script,
+            self.read.items(),
             self.calm_from,
             fault,
             good,
@@ -102,4 +108,12 @@ impl<'a, M: PlainStage> FaultBench<'a, M> {
         self.session = Some(session);
         told
     }
+}
+
+// A session at the start in a copy of a circuit, which keeps nothing.
+fn new_session<M: PlainStage>(alloc: Global, start: &Circuit) -> Result<Session<M>, NoMemory>
+    ensures { IfOk result (λ session. session.core ≡ start_of start.now) }
+{
+    let circuit = start.copy(alloc)?;
+    Session::new(alloc, circuit)
 }

@@ -1,11 +1,12 @@
 //! A run under a fault that ends at its first strong difference, where nothing after it is wanted.
 
 ghost use Rattle.std.specs.Prelude.{◌≡◌, Some, IfOk, IfSome};
+ghost use Rattle.fault_runs.specs.Lines.{AreRead};
 ghost use Rattle.fault_runs.specs.Words.{HasVisibleNames, IsFault, IsReady, IsTraced, JudgesBy, StandsAtStart};
 ghost use Rattle.fault_meaning.specs.Early as spec;
 
 use crate::good::{GoodRun, is_ready};
-use crate::reader::Masked;
+use crate::lines::{ReadLine, run_read};
 use crate::running::put_fault;
 use column_stage::PlainStage;
 use cosmos_session::Session;
@@ -16,9 +17,8 @@ use line_words::{cut_line, front, lines};
 use netlist::Circuit;
 use script_lang::{Command, ScriptFault, Setup, read_command};
 use script_meaning::Turn;
-use script_run::run_line;
 use std::alloc::Global;
-use ternary::NoMemory;
+use ternary::{NoMemory, Tern};
 use told_verdicts::Compare;
 
 /// The number of the first line of a script that builds and after which no line edits the circuit or is
@@ -88,6 +88,7 @@ pub(crate) fn judge_under<M: PlainStage, A: Analyst>(
     session: &mut Session<M>,
     start: &Circuit,
     script: &[u8],
+    read: &[ReadLine],
     calm_from: Option<u64>,
     fault: Fault,
     good: &GoodRun,
@@ -96,6 +97,7 @@ pub(crate) fn judge_under<M: PlainStage, A: Analyst>(
     requires stands { StandsAtStart start.now session.old.core }
     requires visible { HasVisibleNames start.now }
     requires fault { IsFault start.now fault }
+    requires read { AreRead script.now read.now }
     requires calm { IfSome calm_from (spec.IsCalmFrom script.now) }
     ensures { IfOk result (JudgesBy (IsTraced start.now script.now session.old.core.kept (Some fault) session.new.core
         (A.analysed analyst.old) (A.analysed analyst.new)) good.now) }
@@ -103,12 +105,13 @@ pub(crate) fn judge_under<M: PlainStage, A: Analyst>(
     put_fault(alloc, session, start, fault, analyst)?;
     is_ready(session);
     let stuck = stuck_node(fault);
-    let reader = Masked { stuck };
-    judge_lines(alloc, session, script, calm_from, reader, good, analyst)
+    judge_lines(
+        alloc, session, script, read, calm_from, stuck, good, analyst,
+    )
 }
 
-// Runs the lines of a script in a session, read while a node may be stuck, and gives the verdict on what they
-// show beside the good run.
+// Runs the lines of a script, which were read before, in a session while a node may be stuck, and gives the verdict on what
+// they show beside the good run.
 //
 // From the line with the number on, the run ends at the first strong difference: the verdict is that on the
 // whole run then, and nothing after it would be analysed or kept.
@@ -116,21 +119,23 @@ fn judge_lines<M: PlainStage, A: Analyst>(
     alloc: Global,
     session: &mut Session<M>,
     script: &[u8],
+    read: &[ReadLine],
     calm_from: Option<u64>,
-    reader: Masked,
+    stuck: Option<(usize, Tern)>,
     good: &GoodRun,
     analyst: &mut A,
 ) -> Result<Verdict, NoMemory>
     requires ready { IsReady session.old.core }
+    requires read { AreRead script.now read.now }
     requires calm { IfSome calm_from (spec.IsCalmFrom script.now) }
-    ensures { IfOk result (spec.JudgesLines reader.stuck script.now session.old.core good.now session.new.core
+    ensures { IfOk result (spec.JudgesLines stuck script.now session.old.core good.now session.new.core
         (A.analysed analyst.old) (A.analysed analyst.new)) }
 {
     let cut = cut_line(script);
     let good_rows = good.rows();
     let mut out = Compare::new(good_rows);
-    for line in lines(front(script)) {
-        let Ok(turn) = run_line(alloc, session, cut, line, &reader, &mut out, analyst) else {
+    for line in read {
+        let Ok(turn) = run_read(alloc, session, cut, line, stuck, &mut out, analyst) else {
             return Err(NoMemory);
         };
         let calm = is_from(calm_from, line.number);

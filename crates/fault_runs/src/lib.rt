@@ -5,7 +5,7 @@
 //! circuit; the analyses of groups are kept from run to run. The rows of the good run are held (`good`). Each other
 //! run is compared with it while its lines are told, by `told_verdicts`, and its verdict is written as soon as it is
 //! known. A run ends at its first strong difference, where nothing after it would be analysed or kept (`early`). The
-//! lines of the good run are read as ever, and those of the others as a stuck node changes them (`reader`).
+//! lines of the script are read once for all runs but the good one, and a stuck node changes their commands (`lines`).
 //!
 //! The layer above rests on its contract `told`, which is `AreJudgedFaults` of `fault_meaning`: the first
 //! refused line of the list alone, or the line of the script that is refused in the good run alone, or a
@@ -24,8 +24,8 @@ mod bench;
 mod early;
 mod good;
 mod judging;
+mod lines;
 mod list;
-mod reader;
 mod running;
 
 pub use judging::judge_faults;

@@ -1,9 +1,16 @@
 -- Laws of masks: without a stuck node a well-formed command stays as it is, a masked command is well formed, and lists are masked item by item.
-use Rattle.std.proofs.Common.{◌≡◌, ℕ, ◌+◌, ◌<◌, ◌++◌, get_or, take, Bool, true, false, not, cond, List, [], ◌∷◌, length, map, filter, All, Option, Some, None, IfSome, option_map, Result, Ok, Err, IfOk, IfErr, ◌⊎◌, inl, inr, if◌then◌else◌, refl, sym, ap, ◌∙◌, subst, arith}
+use Rattle.std.proofs.Common.{◌≡◌, ℕ, ◌+◌, ◌<◌, ◌++◌, get_or, take, Bool, true, false, not, cond, List, [], ◌∷◌, length, map, filter, All, Option, Some, None, IfSome, option_map, is_some, Result, Ok, Err, IfOk, if◌then◌else◌, refl, sym, ap, ◌∙◌, subst, arith}
+use Rattle.std.specs.Prelude.{◌==◌, ◌≢◌}
+use Rattle.std.specs.Bool.{OnTrue}
+use Rattle.std.specs.Option.{option_map_or}
+use Rattle.std.proofs.lemmas.Bool.Decides.{nat_tests}
 use Rattle.std.proofs.lemmas.List.{append-nil, length-map, map-append, map_more, take_more}
 use Rattle.std.proofs.lemmas.List.Elements.{All-map, All-filter, All-weaker, filter-append}
 use Rattle.ternary.specs.declared.tern.Tern.{Tern}
 use Rattle.netlist.specs.Circuits.{CircuitData}
+use Rattle.netlist.specs.Names.{node_of}
+use Rattle.node_words.specs.Words.{list_of}
+use Rattle.node_values.specs.Givings.{letters_given, unless_node}
 use Rattle.line_words.specs.Visible.{IsVisibleName}
 use Rattle.script_lang.specs.declared.command.Command.{Command}
 use Rattle.script_lang.specs.declared.command.Command.TheVariants as family
@@ -14,13 +21,13 @@ use Rattle.script_lang.specs.declared.command.Give.TheVariants.{Set, Charge, Bac
 use Rattle.script_lang.specs.declared.command.Setup.{Setup}
 use Rattle.script_lang.specs.declared.command.Setup.TheVariants.{Clock}
 use Rattle.script_lang.specs.declared.command.ScriptFault.{ScriptFault}
-use Rattle.script_lang.specs.declared.command.ScriptFault.TheVariants.{NoMemory}
 use Rattle.script_lang.specs.Forms.{IsFormed, IsFormedEdit, IsFormedGive, IsFormedSetup}
 use Rattle.script_lang.specs.Commands.{reading_of}
 use Rattle.script_lang.proofs.ReadingLemmas.{reading-formed}
 use Rattle.script_lang.specs.declared.value.Value.{Value}
 use Rattle.script_lang.specs.declared.value.Value.TheVariants as given
-use Rattle.fault_sim.specs.Masks.{is_stuck, is_stuck_alone, state_for, charge_left, charge_value, masked_charges, set_value, masked_edit, masked_give, masked_setup, masked_of, masked_reading_by, masked_reading}
+use Rattle.fault_sim.specs.Masks.{command_left, is_stuck, is_stuck_alone, state_for, charge_left, charge_value, masked_charges, masked_sets, set_value, value_by, vector_value, with_own, masked_edit, masked_give, masked_setup, masked_of, masked_reading_by, masked_reading, IsSpared}
+use Rattle.fault_sim.specs.declared.masks.Left.{Left}
 
 -- what changes nothing leaves a list as it is
 same_assignments : (list : List (List ℕ × Value)) → map (λ (item : List ℕ × Value). (item.0, item.1)) list ≡ list
@@ -81,24 +88,6 @@ unmasked-reading c vectors line = by (reading_of line) (reading-formed line)
     by (Ok (Some command)) formed = ap Ok (unmasked c vectors command (formed command refl))
     by (Err fault) formed = refl
 
--- what is read of a line if no node is stuck
-read_plain : (stuck : Option (ℕ × Tern)) (c : CircuitData) (vectors : List (List ℕ × List ℕ)) (line : List ℕ) → stuck ≡ None →
-    masked_reading stuck c vectors line ≡ reading_of line
-read_plain stuck c vectors line none = ap (λ at. masked_reading at c vectors line) none ∙ unmasked-reading c vectors line
-
--- so what was read as ever was read if no node is stuck
-pub read_as : (stuck : Option (ℕ × Tern)) (c : CircuitData) (vectors : List (List ℕ × List ℕ)) (line : List ℕ) → stuck ≡ None →
-    (result : Result (Option Command) ScriptFault) → IfOk result (λ left. reading_of line ≡ Ok left) → IfOk result (λ left. masked_reading stuck c vectors line ≡ Ok left)
-read_as stuck c vectors line none (Ok left) is = read_plain stuck c vectors line none ∙ is
-read_as stuck c vectors line none (Err fault) is = tt
-
-pub refused_as : (stuck : Option (ℕ × Tern)) (c : CircuitData) (vectors : List (List ℕ × List ℕ)) (line : List ℕ) → stuck ≡ None →
-    (result : Result (Option Command) ScriptFault) → IfErr result (λ fault. (fault ≡ NoMemory) ⊎ (reading_of line ≡ Err fault)) →
-    IfErr result (λ fault. (fault ≡ NoMemory) ⊎ (masked_reading stuck c vectors line ≡ Err fault))
-refused_as stuck c vectors line none (Ok left) is = tt
-refused_as stuck c vectors line none (Err fault) (inl want) = inl want
-refused_as stuck c vectors line none (Err fault) (inr is) = inr (read_plain stuck c vectors line none ∙ is)
-
 -- a masked command is well formed, if the command is
 edit-formed : (c : CircuitData) (stuck : Option (ℕ × Tern)) (edit : Edit) → IsFormedEdit edit → IfSome (masked_edit c stuck edit) IsFormedEdit
 edit-formed c stuck (Store name size) formed = by (is_stuck c stuck name)
@@ -150,12 +139,58 @@ masked_of-formed c vectors stuck (family.Setup setup) formed = setup-formed c st
 masked_of-formed c vectors stuck (family.Run run) formed = formed
 masked_of-formed c vectors stuck (family.Tell tell) formed = formed
 
--- the same of what was made, if there was memory for it
-pub masked_of-made : {E : Type 0} (c : CircuitData) (vectors : List (List ℕ × List ℕ)) (stuck : Option (ℕ × Tern)) (command : Command)
-    (made : Result (Option Command) E) → IfOk made (λ left. left ≡ masked_of c vectors stuck command) → IsFormed command → IfOk made (λ left. IfSome left IsFormed)
-masked_of-made c vectors stuck command (Ok left) is formed =
+-- so what is left of it is well formed, if there was memory for that
+pub left-formed : {E : Type 0} (c : CircuitData) (vectors : List (List ℕ × List ℕ)) (stuck : Option (ℕ × Tern)) (command : Command) (made : Result Left E) →
+    IfOk made (λ left. command_left command left ≡ masked_of c vectors stuck command) → IsFormed command → IfOk made (λ left. IfSome (command_left command left) IsFormed)
+left-formed c vectors stuck command (Ok left) is formed =
     subst (λ left. IfSome left IsFormed) (sym is) (masked_of-formed c vectors stuck command formed)
-masked_of-made c vectors stuck command (Err fault) is formed = tt
+left-formed c vectors stuck command (Err fault) is formed = tt
+
+-- if no node is stuck a command is left as it is
+pub left_same : (c : CircuitData) (vectors : List (List ℕ × List ℕ)) (stuck : Option (ℕ × Tern)) (command : Command) → stuck ≡ None → IsFormed command →
+    Some command ≡ masked_of c vectors stuck command
+left_same c vectors stuck command none formed = sym (ap (λ at. masked_of c vectors at command) none ∙ unmasked c vectors command formed)
+
+-- ---- what `set` gives, if it spares the stuck node
+
+-- a name that is spared gets what the word says
+spared_value : (c : CircuitData) (vectors : List (List ℕ × List ℕ)) (stuck : Option (ℕ × Tern)) (name : List ℕ) (value : Value) → IsSpared c vectors stuck name →
+    set_value c vectors stuck (name, value) ≡ value
+spared_value c vectors None name value spared = refl
+spared_value c vectors (Some at) name value spared =
+    ap (λ (same : Bool). if same then with_own at.1 value else vector_value c vectors at.0 (Some at.1) (name, value)) spared.0
+    ∙ ap (λ (wide : Bool). value_by wide at.0 (Some at.1) value (letters_given c vectors (name, value))) spared.1
+
+-- one more assignment is spared
+pub spared_more : (c : CircuitData) (vectors : List (List ℕ × List ℕ)) (stuck : Option (ℕ × Tern)) (items : List (List ℕ × Value)) (i : ℕ)
+    (item : List ℕ × Value) → i < length items → item ≡ get_or items i item → IsSpared c vectors stuck item.0 →
+    masked_sets c vectors stuck (take i items) ≡ take i items → masked_sets c vectors stuck (take (i + 1) items) ≡ take (i + 1) items
+spared_more c vectors stuck items i item low here spared front =
+    let change : List ℕ × Value → List ℕ × Value = λ item. (item.0, set_value c vectors stuck item) in
+    map_more change items i item low
+    ∙ ap (λ (l : List (List ℕ × Value)). l ++ change (get_or items i item) ∷ []) front
+    ∙ ap (λ (one : List ℕ × Value). take i items ++ change one ∷ []) (sym here)
+    ∙ ap (λ (value : Value). take i items ++ (item.0, value) ∷ []) (spared_value c vectors stuck item.0 item.1 spared)
+    ∙ ap (λ (one : List ℕ × Value). take i items ++ one ∷ []) here
+    ∙ sym (take_more items i item low)
+
+-- a name of another node, or of nothing, is spared
+pub spared_node : (c : CircuitData) (vectors : List (List ℕ × List ℕ)) (stuck : Option (ℕ × Tern)) (name : List ℕ) (node : ℕ) (other : Bool) →
+    node_of c.names name ≡ Some node → OnTrue other (IfSome stuck (λ at. node ≢ at.0)) → OnTrue other (IsSpared c vectors stuck name)
+spared_node c vectors stuck name node false is apart = tt
+spared_node c vectors None name node true is apart = (refl, ap (λ found. is_some (unless_node found (list_of vectors name))) is)
+spared_node c vectors (Some at) name node true is apart = (
+  ap (λ found. option_map_or (λ node. node == at.0) found false) is ∙ grind (arith, nat_tests, apart),
+  ap (λ found. is_some (unless_node found (list_of vectors name))) is,
+)
+
+pub spared_nothing : (c : CircuitData) (vectors : List (List ℕ × List ℕ)) (stuck : Option (ℕ × Tern)) (name : List ℕ) → node_of c.names name ≡ None →
+    list_of vectors name ≡ None → IsSpared c vectors stuck name
+spared_nothing c vectors stuck name unused none = (by stuck, ap (λ found. is_some (unless_node found (list_of vectors name))) unused ∙ ap is_some none)
+  where
+    by : (stuck : Option (ℕ × Tern)) → is_stuck c stuck name ≡ false
+    by None = refl
+    by (Some at) = ap (λ found. option_map_or (λ node. node == at.0) found false) unused
 
 -- one more item of a list is changed
 pub changed_more : {X Y : Type 0} (change : X → Y) (items : List X) (left more : List Y) (i : ℕ) (item : X) (made : Y) → i < length items →

@@ -1,5 +1,5 @@
 -- How a script changes for a node that is stuck: each command is masked in the circuit of its moment.
-use Rattle.std.specs.Prelude.{ℕ, Bool, true, false, not, ◌==◌, List, [], ◌∷◌, map, filter, Option, Some, None, option_map, Result, Ok, Err, if◌then◌else◌}
+use Rattle.std.specs.Prelude.{◌≡◌, ℕ, Bool, true, false, not, ◌==◌, List, [], ◌∷◌, map, filter, Option, Some, None, option_map, Result, Ok, Err, if◌then◌else◌}
 use Rattle.std.specs.Option.{option_map_or}
 use Rattle.ternary.specs.declared.tern.Tern.{Tern}
 use Rattle.netlist.specs.Circuits.{CircuitData}
@@ -19,11 +19,17 @@ use Rattle.script_lang.specs.declared.command.Setup.{Setup}
 use Rattle.script_lang.specs.declared.command.Setup.TheVariants.{Clock}
 use Rattle.script_lang.specs.declared.command.ScriptFault.{ScriptFault}
 use Rattle.script_lang.specs.Commands.{reading_of}
+use Rattle.fault_sim.specs.declared.masks.Left.{Left}
+use Rattle.fault_sim.specs.declared.masks.Left.TheVariants as rest
 
 -- the name is that of the stuck node, if one is stuck
 abbrev pub is_stuck : CircuitData → Option (ℕ × Tern) → List ℕ → Bool
 is_stuck c None name = false
 is_stuck c (Some stuck) name = option_map_or (λ node. node == stuck.0) (node_of c.names name) false
+
+-- the name is neither that of the stuck node nor that of a vector
+abbrev pub IsSpared : CircuitData → List (List ℕ × List ℕ) → Option (ℕ × Tern) → List ℕ → Type 0
+IsSpared c vectors stuck name = (is_stuck c stuck name ≡ false) × (is_vector c vectors name ≡ false)
 
 -- the state that a word gives the node of this name: a stuck node has its own
 abbrev pub state_for : CircuitData → Option (ℕ × Tern) → List ℕ → Tern → Tern
@@ -107,6 +113,12 @@ masked_of c vectors stuck (family.Give give) = option_map family.Give (masked_gi
 masked_of c vectors stuck (family.Setup setup) = Some (family.Setup (masked_setup c stuck setup))
 masked_of c vectors stuck (family.Run run) = Some (family.Run run)
 masked_of c vectors stuck (family.Tell tell) = Some (family.Tell tell)
+
+-- what is left of a command: itself, another one, or nothing
+abbrev pub command_left : Command → Left → Option Command
+command_left command rest.Same = Some command
+command_left command (rest.Other other) = Some other
+command_left command rest.Nothing = None
 
 -- what a line asks for, masked; a line that is no command is refused as it is
 abbrev pub masked_reading_by : CircuitData → List (List ℕ × List ℕ) → Option (ℕ × Tern) → Result (Option Command) ScriptFault →

@@ -12,7 +12,7 @@ use ternary::Tern;
 use thiserror::Error;
 
 /// A fault of a circuit.
-#[derive(Clone, Copy, Debug, PartialEq, Eq)]
+#[derive(Clone, Copy, PartialEq, Eq)]
 pub enum Fault {
     /// The transistor of this number never conducts.
     Open(u64),

@@ -3,7 +3,7 @@
 //!
 //! The main types are `Fault` and `Verdict`. `read_fault` reads a line of a list of faults
 //! in the circuit at the start. A fault of a transistor leaves the script as it is; for a node that is
-//! stuck at a state, `masked` changes each command, and `read_masked` a line of the script.
+//! stuck at a state, `masked` changes each command.
 //! `fault_commands` are obeyed before the script. `first_in_row` compares the values of one waveform line
 //! with those of the good run.
 //!
@@ -13,8 +13,8 @@
 //!
 //! ```text
 //! read_fault(&circuit, b"zero a")        is Ok(Some(Fault::Stuck(2, Tern::Zero)))
-//! masked(alloc, set_a_to_1, &circuit, Some((2, Tern::Zero)))
-//!                                        is Ok(Some(set a=0)): the node stays as it is
+//! masked(alloc, &set_a_to_1, &circuit, &vectors, Some((2, Tern::Zero)))
+//!                                        is Ok(Left::Other(set a=0)): the node stays as it is
 //! first_in_row(true, &[Tern::Zero, Tern::One], &[Tern::Unk, Tern::Zero])
 //!                                        is Some(1)
 //! ```
@@ -32,5 +32,5 @@ mod verdicts;
 pub use commands::{fault_commands, stuck_node};
 pub use differences::first_in_row;
 pub use fault::{Fault, ListFault, read_fault};
-pub use masks::{masked, read_masked};
+pub use masks::{Left, masked};
 pub use verdicts::Verdict;

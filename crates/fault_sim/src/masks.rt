@@ -1,25 +1,35 @@
 //! Commands under a node that is stuck.
-ghost use Rattle.std.specs.Prelude.{◌≡◌, ◌⊎◌, ◌==◌, [], ◌∷◌, ◌++◌, Err, Ok, map, IfErr, IfOk, IfSome, OnOk, if◌then◌else◌};
+ghost use Rattle.std.specs.Prelude.{◌≡◌, ◌≢◌, ◌==◌, ℕ, [], ◌∷◌, ◌++◌, Some, map, option_map, IfOk, IfSome, OnOk, if◌then◌else◌};
+ghost use Rattle.std.specs.Bool.{OnTrue};
+ghost use Rattle.script_lang.specs.declared.command.Command.TheVariants as family;
 ghost use Rattle.script_lang.specs.declared.command.Edit.TheVariants as edited;
 ghost use Rattle.script_lang.specs.declared.command.Give.TheVariants as given;
 ghost use Rattle.script_lang.specs.Forms.{IsFormed};
 ghost use Rattle.vector_values.specs.Values.{plain_value};
 ghost use Rattle.fault_sim.specs.Masks as spec;
-ghost use Rattle.fault_sim.specs.Masks.{is_stuck, masked_of, masked_reading, state_for};
+ghost use Rattle.fault_sim.specs.Masks.{command_left, is_stuck, masked_of, state_for, IsSpared};
 
 use netlist::Circuit;
 use node_values::{GivenFault, letters_given};
 use node_words::{Named, Vectors};
-use script_lang::{
-    ClockList, Command, Edit, Give, Name, ScriptFault, Setup, StateList, Value, ValueList,
-    read_command,
-};
+use script_lang::{ClockList, Command, Edit, Give, Name, Setup, StateList, Value, ValueList};
 use std::alloc::Global;
 use ternary::{NoMemory, Tern};
 use vector_values::{Letter, VectorValue};
 
-/// The command that is obeyed in place of this one while a node is stuck at a state, or None exactly
-/// if nothing is.
+/// What is obeyed in place of a command while a node may be stuck.
+#[derive(Drop)]
+pub enum Left {
+    /// The command itself.
+    Same,
+    /// Another command.
+    Other(Command),
+    /// Nothing.
+    Nothing,
+}
+
+/// What is obeyed in place of a well-formed command while a node is stuck at a state. A command that stays as it is, as each does if no
+/// node is stuck, isn't copied, but for `charge` and `clock`.
 ///
 /// Each letter that `set` or `clock` gives the node is replaced by the state at which it is stuck, also if a
 /// vector has the node; each word that names it is taken out of `charge`, which does nothing if no word is
@@ -27,21 +37,27 @@ use vector_values::{Letter, VectorValue};
 /// circuit and among the vectors as they are at the command. All other words stay.
 pub fn masked(
     alloc: Global,
-    command: Command,
+    command: &Command,
     circuit: &Circuit,
     vectors: &Vectors,
     stuck: Option<(usize, Tern)>,
-) -> Result<Option<Command>, NoMemory>
-    ensures value { IfOk result (λ left. left ≡ masked_of circuit.now vectors.now stuck command) }
-    ensures formed { IsFormed command → IfOk result (λ left. IfSome left IsFormed) }
+) -> Result<Left, NoMemory>
+    requires { IsFormed command.now }
+    ensures value { IfOk result (λ left. command_left command.now left ≡ masked_of circuit.now vectors.now stuck command.now) }
+    ensures formed { IfOk result (λ left. IfSome (command_left command.now left) IsFormed) }
 {
-    let mask = Mask {
-        alloc,
-        circuit,
-        vectors,
-        stuck,
-    };
-    masked_by_family(&mask, command)
+    match stuck {
+        None => Ok(Left::Same),
+        Some(_) => {
+            let mask = Mask {
+                alloc,
+                circuit,
+                vectors,
+                stuck,
+            };
+            masked_by_family(&mask, command)
+        }
+    }
 }
 
 // What commands are masked for.
@@ -53,87 +69,112 @@ struct Mask<'a> {
     stuck: Option<(usize, Tern)>,
 }
 
-// The command under a mask, family by family.
-fn masked_by_family(mask: &Mask<'_>, command: Command) -> Result<Option<Command>, NoMemory>
-    ensures { IfOk result (λ left. left ≡ masked_of mask.now.circuit.now mask.now.vectors.now mask.now.stuck command) }
+// What is left of a command under a mask, family by family.
+fn masked_by_family(mask: &Mask<'_>, command: &Command) -> Result<Left, NoMemory>
+    ensures { IfOk result (λ left. command_left command.now left ≡ masked_of mask.now.circuit.now mask.now.vectors.now mask.now.stuck command.now) }
 {
     match command {
-        Command::Edit(edit) => Ok(masked_edit(mask, edit).map(Command::Edit)),
-        Command::Give(give) => Ok(masked_give(mask, give)?.map(Command::Give)),
-        Command::Setup(setup) => Ok(Some(Command::Setup(masked_setup(mask, setup)?))),
-        Command::Run(run) => Ok(Some(Command::Run(run))),
-        Command::Tell(tell) => Ok(Some(Command::Tell(tell))),
-    }
-}
-
-/// Reads a line of the script while a node is stuck: what `read_command` gives, masked. If no node is
-/// stuck its command is taken as it is, and not copied.
-pub fn read_masked(
-    alloc: Global,
-    bytes: &[u8],
-    circuit: &Circuit,
-    vectors: &Vectors,
-    stuck: Option<(usize, Tern)>,
-) -> Result<Option<Command>, ScriptFault>
-    ensures ok { IfOk result (λ left. masked_reading stuck circuit.now vectors.now bytes.now ≡ Ok left) }
-    ensures refused { IfErr result (λ fault. (fault ≡ ScriptFault.NoMemory)
-        ⊎ (masked_reading stuck circuit.now vectors.now bytes.now ≡ Err fault)) }
-    ensures formed { IfOk result (λ left. IfSome left IsFormed) }
-{
-    match stuck {
-        None => read_command(alloc, bytes),
-        Some(_) => match read_command(alloc, bytes)? {
-            Some(command) => Ok(masked(alloc, command, circuit, vectors, stuck)?),
-            None => Ok(None),
-        },
+        Command::Edit(edit) => Ok(masked_edit(mask, edit)),
+        Command::Give(give) => masked_give(mask, give),
+        Command::Setup(setup) => masked_setup(mask, setup),
+        Command::Run(_) => Ok(Left::Same),
+        Command::Tell(_) => Ok(Left::Same),
     }
 }
 
 // An edit, unless it is `store` of the stuck node.
-fn masked_edit(mask: &Mask<'_>, edit: Edit) -> Option<Edit>
-    ensures { result ≡ spec.masked_edit mask.now.circuit.now mask.now.stuck edit }
+fn masked_edit(mask: &Mask<'_>, edit: &Edit) -> Left
+    ensures { command_left (family.Edit edit.now) result ≡ option_map family.Edit (spec.masked_edit mask.now.circuit.now mask.now.stuck edit.now) }
 {
     match edit {
-        Edit::Store(name, size) => masked_store(mask, name, size),
-        edit => Some(edit),
+        Edit::Store(name, _) => masked_store(mask, name.items()),
+        _ => Left::Same,
     }
 }
 
-// `store`, unless it is of the stuck node.
-fn masked_store(mask: &Mask<'_>, name: Name, size: u64) -> Option<Edit>
-    ensures { result ≡ spec.masked_edit mask.now.circuit.now mask.now.stuck (edited.Store name size) }
+// `store` of any size, unless it is of the stuck node.
+fn masked_store(mask: &Mask<'_>, name: &[u8]) -> Left
+    ensures { (size : ℕ) → command_left (family.Edit (edited.Store name.now size)) result
+        ≡ option_map family.Edit (spec.masked_edit mask.now.circuit.now mask.now.stuck (edited.Store name.now size)) }
 {
-    if names_stuck(mask, name.items()) {
-        None
+    if names_stuck(mask, name) {
+        Left::Nothing
     } else {
-        Some(Edit::Store(name, size))
+        Left::Same
     }
 }
 
 // States that are given, with the stuck node at its own.
-fn masked_give(mask: &Mask<'_>, give: Give) -> Result<Option<Give>, NoMemory>
-    ensures { IfOk result (λ left. left ≡ spec.masked_give mask.now.circuit.now mask.now.vectors.now mask.now.stuck give) }
+fn masked_give(mask: &Mask<'_>, give: &Give) -> Result<Left, NoMemory>
+    ensures { IfOk result (λ left. command_left (family.Give give.now) left
+        ≡ option_map family.Give (spec.masked_give mask.now.circuit.now mask.now.vectors.now mask.now.stuck give.now)) }
 {
     match give {
-        Give::Set(list) => {
-            let list = masked_assignments(mask, &list)?;
-            Ok(Some(Give::Set(list)))
+        Give::Set(list) => masked_set(mask, list),
+        Give::Charge(list) => match masked_charge(mask, list)? {
+            Some(give) => Ok(Left::Other(Command::Give(give))),
+            None => Ok(Left::Nothing),
+        },
+        Give::Back(_) => Ok(Left::Same),
+    }
+}
+
+// `set` with the stuck node given its own state; it is copied if one of its words may give the node another one.
+fn masked_set(mask: &Mask<'_>, list: &ValueList) -> Result<Left, NoMemory>
+    ensures { IfOk result (λ left. command_left (family.Give (given.Set list.now)) left
+        ≡ Some (family.Give (given.Set (spec.masked_sets mask.now.circuit.now mask.now.vectors.now mask.now.stuck list.now)))) }
+{
+    if spares(mask, list) {
+        return Ok(Left::Same);
+    }
+    let list = masked_assignments(mask, list)?;
+    Ok(Left::Other(Command::Give(Give::Set(list))))
+}
+
+// Whether no assignment is that of the stuck node or of a vector: then all that they give stays.
+fn spares(mask: &Mask<'_>, list: &ValueList) -> bool
+    ensures { OnTrue result (spec.masked_sets mask.now.circuit.now mask.now.vectors.now mask.now.stuck list.now ≡ list.now) }
+{
+    for (name, _) in list.items() {
+        if !spares_name(mask, name.items()) {
+            return false;
         }
-        Give::Charge(list) => masked_charge(mask, &list),
-        Give::Back(name) => Ok(Some(Give::Back(name))),
+    }
+    true
+}
+
+// Whether a name stands for a node that isn't stuck, or for nothing.
+fn spares_name(mask: &Mask<'_>, name: &[u8]) -> bool
+    ensures { OnTrue result (IsSpared mask.now.circuit.now mask.now.vectors.now mask.now.stuck name.now) }
+{
+    match mask.vectors.named(mask.circuit, name) {
+        Named::Node(node) => is_other(mask.stuck, node),
+        Named::Vector(_) => false,
+        Named::Nothing => true,
+    }
+}
+
+// Whether a node isn't the one that is stuck.
+fn is_other(stuck: Option<(usize, Tern)>, node: usize) -> bool
+    ensures { OnTrue result (IfSome stuck (λ at. node ≢ at.0)) }
+{
+    match stuck {
+        Some(at) => node != at.0,
+        None => true,
     }
 }
 
 // What is set for later commands: clocks give the stuck node its own state.
-fn masked_setup(mask: &Mask<'_>, setup: Setup) -> Result<Setup, NoMemory>
-    ensures { IfOk result (λ left. left ≡ spec.masked_setup mask.now.circuit.now mask.now.stuck setup) }
+fn masked_setup(mask: &Mask<'_>, setup: &Setup) -> Result<Left, NoMemory>
+    ensures { IfOk result (λ left. command_left (family.Setup setup.now) left
+        ≡ Some (family.Setup (spec.masked_setup mask.now.circuit.now mask.now.stuck setup.now))) }
 {
     match setup {
         Setup::Clock(list) => {
-            let list = masked_clocks(mask, &list)?;
-            Ok(Setup::Clock(list))
+            let list = masked_clocks(mask, list)?;
+            Ok(Left::Other(Command::Setup(Setup::Clock(list))))
         }
-        setup => Ok(setup),
+        _ => Ok(Left::Same),
     }
 }
 

@@ -1,7 +1,7 @@
 //! What a fault's trace tells.
 
 /// How the trace of a fault's run differs from that of the good one.
-#[derive(Clone, Copy, Debug, PartialEq, Eq)]
+#[derive(Clone, Copy, PartialEq, Eq)]
 pub enum Verdict {
     /// The fault shows for certain, first in the waveform line of this number, counted from 1, at this
     /// entry of the watch list, counted from 0: one run has 0 there and the other 1.

@@ -181,6 +181,24 @@ fn run_seen<M: PlainStage, R: LineReader, L: Lines, A: Analyst, O: Onlooker>(
     }
 }
 
+/// Runs a command that is well formed: it comes to what each line comes to that asks for it.
+pub fn run_command<M: PlainStage, L: Lines, A: Analyst>(
+    session: &mut Session<M>,
+    command: &Command,
+    out: &mut L,
+    analyst: &mut A,
+) -> Result<Turn, Stop>
+    requires { IsFormed command.now }
+    ensures turn { (reading : Reading) (cut : Option ℕ) (line : ℕ × List ℕ) → Asks reading cut session.old.core line command.now →
+        TakesTurn L.hear L.part reading cut line session.old.core session.new.core
+        (L.heard out.old) (L.heard out.new) (A.analysed analyst.old) (A.analysed analyst.new) result }
+    ensures no_read { IfErr result (λ stop. stop ≢ Stop.Read) }
+    ensures write { L.faults out.new ≡ faults_written (L.faults out.old) result }
+    ensures refused { IsRefusedOnce (L.refusals out.old) (L.refusals out.new) result }
+{
+    obey_command(session, command, out, analyst, &mut Blind {})
+}
+
 // Obeys a line's command, and shows its steps and phases and the state behind it to an onlooker, who knows the session's state.
 fn obey_command<M: PlainStage, L: Lines, A: Analyst, O: Onlooker>(
     session: &mut Session<M>,

@@ -1,3 +1,4 @@
+use Rattle.std.proofs.Common.{drop}
 use Rattle.line_words.specs.Files as file
 use Rattle.told_verdicts.specs.Comparing.{compared}
 use Rattle.fault_sim.specs.Masks.{masked_reading}
@@ -7,7 +8,7 @@ use Rattle.fault_runs.proofs.early.judge_lines.Given as goal
 
 abbrev pub invariant-loop-line : goal.invariant-loop-line
 invariant-loop-line g l = record {
-  come : HasCome compared (masked_reading l.reader.stuck) l.cut l.fn.session.core (file.lines_in l.script) l.initial.out (g.A.Analyst.analysed l.fn.analyst)
-      l.session.core l.line-iterator l.out (g.A.Analyst.analysed l.analyst);
-  placed : IsPlaced l.calm_from l.line-iterator l.session.core;
+  come : HasCome compared (masked_reading l.stuck) l.cut l.fn.session.core (file.lines_in l.script) l.initial.out (g.A.Analyst.analysed l.fn.analyst)
+      l.session.core (drop l.line-index (file.lines_in l.script)) l.out (g.A.Analyst.analysed l.analyst);
+  placed : IsPlaced l.calm_from (drop l.line-index (file.lines_in l.script)) l.session.core;
 }
