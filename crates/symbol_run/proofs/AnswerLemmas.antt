@@ -38,7 +38,7 @@ use Rattle.symbol_told.specs.Printing.{Page, lines_told, part_printed, print}
 use Rattle.symbol_told.proofs.PrintingLemmas.{missed-all, texts_told-append, written-all, written-front}
 use Rattle.symbol_run.specs.declared.session.SymbolFault.{SymbolFault}
 use Rattle.symbol_run.specs.declared.session.SymbolFault.TheVariants.{Full, Stopped}
-use Rattle.symbol_run.specs.Answers.{cause_text, ending_of, names_text, size_text, HasEnding, IsAnsweredBy, IsEndedBy}
+use Rattle.symbol_run.specs.Answers.{cause_text, ending_of, is_whole, names_text, size_text, HasEnding, IsAnsweredBy, IsEndedBy}
 use Rattle.symbol_run.specs.Halts.{HaltsInAll, HasRunInAll, StopsAmong}
 use Rattle.symbol_run.specs.Turns.{BreaksLine}
 use Rattle.symbol_run.proofs.AlikeLemmas.{runs_alike}
@@ -349,3 +349,24 @@ refused_part place cause ended old new (Ok end) is = tt
 refused_part place cause ended old new (Err stop) (inl same) =
     subst (λ (own : Option (List ℕ)). WritesPart old own (cause_line place cause)) (sym same) (part_none old (cause_line place cause))
 refused_part place cause ended old new (Err stop) (inr is) = subst (λ (answer : Answer). WritesPart old new answer.text) is.right is.part
+
+-- where no line is refused nothing is written
+pub whole_silent : (circuit : CircuitData) (halt : Halt) (stop : Option NamedStop) → is_whole halt stop ≡ true → cause_text circuit halt stop ≡ []
+whole_silent circuit End None whole = refl
+whole_silent circuit End (Some stop) never = absurd (cc)
+whole_silent circuit (Refused line code) stop never = absurd (cc)
+whole_silent circuit (TooLarge line fault) stop never = absurd (cc)
+
+-- and the script ends as one does that was obeyed to its end
+pub whole_ending : (halt : Halt) (stop : Option NamedStop) (missed : Bool) → is_whole halt stop ≡ true → ending_of End None missed ≡ ending_of halt stop missed
+whole_ending End None missed whole = refl
+whole_ending End (Some stop) missed never = absurd (cc)
+whole_ending (Refused line code) stop missed never = absurd (cc)
+whole_ending (TooLarge line fault) stop missed never = absurd (cc)
+
+-- else it is refused
+pub refused_ending : (halt : Halt) (stop : Option NamedStop) (missed : Bool) → is_whole halt stop ≡ false → ending_of halt stop missed ≡ ended.ScriptRefused
+refused_ending End None missed never = absurd (cc)
+refused_ending End (Some stop) missed refused = refl
+refused_ending (Refused line code) stop missed refused = refl
+refused_ending (TooLarge line fault) stop missed refused = refl

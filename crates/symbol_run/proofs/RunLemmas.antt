@@ -1,5 +1,5 @@
 -- Lines that run one after the other in all columns: what was told so far is what all tell first, whatever the lines that are left tell.
-use Rattle.std.proofs.Common.{◌≡◌, ℕ, ◌<◌, ◌≤◌, Bool, true, false, List, [], ◌∷◌, ◌++◌, Option, None, Some, Result, refl, sym, ap, subst, ◌∙◌, append-nil, append_assoc, arith}
+use Rattle.std.proofs.Common.{◌≡◌, ℕ, ◌<◌, ◌≤◌, Bool, true, false, List, [], ◌∷◌, ◌++◌, Option, None, Some, refl, sym, ap, subst, ◌∙◌, append-nil, append_assoc, arith}
 use Rattle.std.proofs.lemmas.Bool.{leb-false, leb-true}
 use Rattle.group_text.specs.Texts.{GroupTextData}
 use Rattle.circuit_texts.specs.declared.texts.BuildFault.{BuildFault}
@@ -8,8 +8,9 @@ use Rattle.told_lines.proofs.HearingLemmas.{hear_all-append, so_far-front}
 use Rattle.run_ends.specs.Causes.{Cause, size_cause}
 use Rattle.circuit_texts.specs.Sizes.{TellsRefused}
 use Rattle.session_meaning.specs.Sessions.{SessionData}
+use Rattle.script_meaning.specs.FirstRefused.{IsObeyed}
 use Rattle.script_meaning.specs.Runs.{RefusedLine}
-use Rattle.symbol_meaning.specs.Readings.{Valuations}
+use Rattle.symbol_meaning.specs.Readings.{Valuations, reading_under}
 use Rattle.symbol_meaning.specs.Scripts.{NamedStop, before_stop}
 use Rattle.symbol_meaning.specs.Told.{SymbolTold}
 use Rattle.symbol_meaning.specs.Runs.{AreRefused, IsObeyedInAll, RunsInAll}
@@ -19,10 +20,9 @@ use Rattle.symbol_told.specs.Printing.{lines_told}
 use Rattle.symbol_told.proofs.PrintingLemmas.{lines_told-append}
 use Rattle.symbol_reading.proofs.ReadingLemmas.{before, is_before, kept_if, none_before, not_before, rises-later, Rises}
 use Rattle.symbol_run.specs.Halts.{is_past, HasOutgrownInAll, HasRunInAll, StopsAmong}
-use Rattle.script_meaning.specs.declared.turn.Turn.{Turn}
 use Rattle.symbol_run.specs.declared.session.SymbolFault.{SymbolFault}
 use Rattle.symbol_run.specs.declared.session.SymbolFault.TheVariants.{Full, Stopped}
-use Rattle.symbol_run.specs.Turns.{BreaksLine, ObeysHeard, OutgrowsInAll, StaysUnheard, StopsAt, TakesTurnInAll}
+use Rattle.symbol_run.specs.Turns.{BreaksLine, ObeysHeard, OutgrowsInAll, StaysUnheard, StopsAt}
 
 -- lines with their numbers
 abbrev pub Numbered : Type 0
@@ -31,7 +31,7 @@ Numbered = List (ℕ × List ℕ)
 -- ---- lines before the one that is refused by its names
 
 -- a line that doesn't stand before it ends the lines that do
-pub past_none : (stop : Option NamedStop) (line : ℕ × List ℕ) (rest : Numbered) (number : ℕ) → Rises number (line ∷ rest) → is_past stop line.0 ≡ true →
+past_none : (stop : Option NamedStop) (line : ℕ × List ℕ) (rest : Numbered) (number : ℕ) → Rises number (line ∷ rest) → is_past stop line.0 ≡ true →
     before_stop stop (line ∷ rest) ≡ []
 past_none None line rest number rises is = absurd (cc is)
 past_none (Some stop) line rest number (first, later) is =
@@ -42,6 +42,10 @@ past_none (Some stop) line rest number (first, later) is =
     rises-behind own other [] less given = tt
     rises-behind own other (next ∷ lines) less (head, tail) = (omega (arith, less, head), tail)
 
+pub past_all : (stop : Option NamedStop) (line : ℕ × List ℕ) (rest left : Numbered) → left ≡ line ∷ rest → Rises 0 left → is_past stop line.0 ≡ true →
+    before_stop stop left ≡ []
+past_all stop line rest left heads rises is = ap (before_stop stop) heads ∙ past_none stop line rest 0 (subst (Rises 0) heads rises) is
+
 -- one that does is the first of them
 pub here_first : (stop : Option NamedStop) (line : ℕ × List ℕ) (rest : Numbered) → is_past stop line.0 ≡ false →
     before_stop stop (line ∷ rest) ≡ line ∷ before_stop stop rest
@@ -49,6 +53,11 @@ here_first None line rest is = refl
 here_first (Some stop) line rest is =
     let behind : line.0 < stop.0 = leb-false stop.0 line.0 is in
     kept_if stop.0 line rest true (is_before line.0 stop.0 behind)
+
+-- so do lines that begin with it
+pub here_left : (stop : Option NamedStop) (left : Numbered) (line : ℕ × List ℕ) (rest : Numbered) (past : Bool) → left ≡ line ∷ rest →
+    past ≡ is_past stop line.0 → past ≡ false → before_stop stop left ≡ line ∷ before_stop stop rest
+here_left stop left line rest past same is before = ap (before_stop stop) same ∙ here_first stop line rest (sym is ∙ before)
 
 -- none is left of none
 pub none_first : (stop : Option NamedStop) → ◌≡◌ {A = Numbered} (before_stop stop []) []
@@ -188,15 +197,20 @@ module _ {H : Type 0} (hear : H → Telling → H) (part : H → Telling → H �
     analysed = come.analysed;
   }
 
--- a turn by the session as it was at first
-pub turn_by : {H : Type 0} (hear : H → Telling → H) (part : H → Telling → H → Type 0) (own quiet : Bool) (its v : Valuations) (cut : Option ℕ)
-    (old : ℕ → SessionData) (line : ℕ × List ℕ) (rest : Numbered) (new : ℕ → SessionData) (before after : H) (asked known : List GroupTextData)
-    (result : Result Turn SymbolFault) → own ≡ quiet → its ≡ v → TakesTurnInAll hear part own its cut old line rest new before after asked known result →
-    TakesTurnInAll hear part quiet v cut old line rest new before after asked known result
-turn_by hear part own quiet its v cut old line rest new before after asked known result same alike is =
-    subst (λ (own_v : Valuations). TakesTurnInAll hear part quiet own_v cut old line rest new before after asked known result) alike
-    (subst (λ (own_quiet : Bool). TakesTurnInAll hear part own_quiet its cut old line rest new before after asked known result) same is)
-
 -- lines whose numbers rise from one that is no less
 pub rises_on : (line : ℕ × List ℕ) (rest : Numbered) → Rises 0 (line ∷ rest) → Rises 0 rest
 rises_on line rest (first, later) = rises-later 0 line.0 rest first later
+
+-- ---- the same data
+
+-- a line that is obeyed leaves what is the same in each column
+unfoldable pub obeyed_to : (quiet : Bool) (v : Valuations) (cut : Option ℕ) (old mid new : ℕ → SessionData) (line : ℕ × List ℕ) (told : List SymbolTold)
+    (texts : List GroupTextData) → ((column : ℕ) → column < v.columns → new column ≡ mid column) →
+    IsObeyedInAll quiet v cut old line mid told texts → IsObeyedInAll quiet v cut old line new told texts
+obeyed_to quiet v cut old mid new line told texts same is = record {
+  lines = is.lines;
+  each = λ column inside.
+      subst (λ (session : SessionData). IsObeyed (reading_under quiet (v.values column)) cut (old column) line session (is.lines column) texts)
+      (sym (same column inside)) (is.each column inside);
+  merged = is.merged;
+}

@@ -1,5 +1,5 @@
 -- The end of a symbolic script: the line of the refusal that ends it, if one does, and its answer.
-use Rattle.std.specs.Prelude.{◌≡◌, ℕ, Bool, List, [], Option, None, Some, Result, Ok, Err, if◌then◌else◌}
+use Rattle.std.specs.Prelude.{◌≡◌, ℕ, Bool, true, false, List, [], Option, None, Some, Result, Ok, Err, if◌then◌else◌}
 use Rattle.std.specs.Option.{option_map_or}
 use Rattle.std.specs.Io.KnownBytes.{append_known}
 use Rattle.ports.specs.Sending.{WritesPart}
@@ -45,6 +45,13 @@ abbrev pub cause_text : CircuitData → Halt → Option NamedStop → List ℕ
 cause_text circuit End stop = names_text stop
 cause_text circuit (Refused line code) stop = cause_line (Script line) (plain_cause code)
 cause_text circuit (TooLarge line fault) stop = size_text line (size_cause circuit fault)
+
+-- the lines ended without a refusal, also by names
+abbrev pub is_whole : Halt → Option NamedStop → Bool
+is_whole End None = true
+is_whole End (Some stop) = false
+is_whole (Refused number code) stop = false
+is_whole (TooLarge number fault) stop = false
 
 -- how the script ends
 abbrev pub ending_of : Halt → Option NamedStop → Bool → end.End

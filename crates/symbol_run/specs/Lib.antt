@@ -1,4 +1,5 @@
-pub mod Turns
-pub mod Halts
 pub mod Answers
+pub mod Halts
 pub mod Serving
+pub mod Turns
+pub mod Words

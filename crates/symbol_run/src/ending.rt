@@ -3,26 +3,20 @@
 ghost use Rattle.std.specs.Prelude.{◌≡◌, ◌<◌, ℕ, false, None, IfOk, OnErr, OnOk};
 ghost use Rattle.std.specs.Io.KnownBytes.{append_known};
 ghost use Rattle.line_words.specs.Files as file;
-ghost use Rattle.ports.specs.Sending.{WritesPart};
-ghost use Rattle.run_ends.specs.Stops.{faults_written, IsRefusedOnce};
-ghost use Rattle.session_meaning.specs.Sessions.{SessionData};
-ghost use Rattle.symbol_meaning.specs.Readings.{valuations_of};
-ghost use Rattle.symbol_meaning.specs.Scripts.{before_stop, read_of, stop_of, variables_of};
-ghost use Rattle.symbol_run.specs.Answers as spec;
+ghost use Rattle.symbol_run.specs.Words.{WritesPart, faults_written, IsRefusedOnce, SessionData, valuations_of, before_stop, read_of};
+ghost use Rattle.symbol_run.specs.Words.{stop_of, variables_of};
 ghost use Rattle.symbol_run.specs.Answers.{cause_text, ending_of, HasEnding, IsAnsweredBy};
 ghost use Rattle.symbol_run.specs.Turns.{faults_stopped, RefusedStopped};
 
 use crate::lines::obey_lines;
+use crate::refusing::{is_whole, refuse_halt};
 use crate::session::{LineSession, SymbolFault};
 use group_analysis::Analyst;
 use netlist::Circuit;
 use node_words::Vectors;
 use ports::Sink;
-use printed_lines::FaultCode;
-use refusal_words::symbolic_word;
-use run_ends::{End, Stop, refuse_symbolic, refuse_symbolic_named};
+use run_ends::{End, Stop};
 use script_meaning::Halt;
-use script_run::size_cause;
 use std::alloc::Global;
 use symbol_lines::NameFault;
 use symbol_told::SymbolPrinter;
@@ -74,43 +68,10 @@ fn end_script<S: Sink + Drop>(
     ensures write { out.new.faults ≡ faults_written out.old.faults result }
     ensures refused { IsRefusedOnce out.old.refusals out.new.refusals result }
 {
-    match halt {
-        Halt::End => end_by_names(alloc, stop, circuit, vectors, text, out),
-        Halt::Refused(line, code) => {
-            let word = symbolic_word(alloc, code, text, line, circuit, vectors);
-            refuse_symbolic(alloc, line, code, word, End::ScriptRefused, out)
-        }
-        Halt::TooLarge(line, size) => {
-            let (code, name, count) = size_cause(circuit, size);
-            let end = End::ScriptRefused;
-            refuse_symbolic_named(alloc, line, code, name, count, name, end, out)
-        }
+    if is_whole(halt, stop) {
+        return Ok(ending_with(out.missed()));
     }
-}
-
-// Writes the line of the refusal by names, if there is one; else the end is by whether an expectation isn't met.
-fn end_by_names<S: Sink + Drop>(
-    alloc: Global,
-    stop: Option<(u64, NameFault)>,
-    circuit: &Circuit,
-    vectors: &Vectors,
-    text: &[u8],
-    out: &mut SymbolPrinter<S>,
-) -> Result<End, Stop>
-    ensures ok { OnOk result (out.new.page.written ≡ append_known out.old.page.written (cause_text circuit.now Halt.End stop)) }
-    ensures part { OnErr result (WritesPart out.old.page.written out.new.page.written (cause_text circuit.now Halt.End stop)) }
-    ensures ends { IfOk result (λ ended. ended ≡ ending_of Halt.End stop out.old.page.missed) }
-    ensures write { out.new.faults ≡ faults_written out.old.faults result }
-    ensures refused { IsRefusedOnce out.old.refusals out.new.refusals result }
-{
-    match stop {
-        Some((line, fault)) => {
-            let code = name_code(fault);
-            let word = symbolic_word(alloc, code, text, line, circuit, vectors);
-            refuse_symbolic(alloc, line, code, word, End::ScriptRefused, out)
-        }
-        None => Ok(ending_with(out.missed())),
-    }
+    refuse_halt(alloc, halt, stop, circuit, vectors, text, out)
 }
 
 // How a script ends that was obeyed to its end.
@@ -118,14 +79,4 @@ fn ending_with(missed: bool) -> End
     ensures { result ≡ ending_of Halt.End None missed }
 {
     if missed { End::Mismatch } else { End::Done }
-}
-
-// The code of a refusal by names; lack of memory is none.
-fn name_code(fault: NameFault) -> FaultCode
-    ensures { result ≡ spec.name_code fault }
-{
-    match fault {
-        NameFault::TooManyVariables => FaultCode::S19TooManyVariables,
-        NameFault::NameDefined | NameFault::NoMemory => FaultCode::S18NameDefined,
-    }
 }

@@ -18,8 +18,10 @@
 
 mod ending;
 mod lines;
+mod refusing;
 mod session;
 
 pub use ending::run_script;
-pub use lines::obey_lines;
+pub use lines::{is_past, obey_lines};
+pub use refusing::{is_whole, refuse_halt};
 pub use session::{LineSession, SymbolFault};

@@ -46,8 +46,8 @@ pub fn obey_lines<M: LineSession, L: SymbolLines, A: Analyst>(
     Ok(Halt::End)
 }
 
-// Whether a line doesn't stand before the one that is refused by its names.
-fn is_past(number: u64, stop: Option<(u64, NameFault)>) -> bool
+/// Whether the line with this number doesn't stand before the one that is refused by its names.
+pub fn is_past(number: u64, stop: Option<(u64, NameFault)>) -> bool
     ensures { result ≡ spec.is_past stop number }
 {
     match stop {

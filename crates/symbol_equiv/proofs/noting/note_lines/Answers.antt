@@ -9,7 +9,7 @@ use Rattle.script_meaning.specs.declared.turn.Turn.TheVariants.{Accepted, Refuse
 use Rattle.symbol_meaning.specs.Scripts.{before_stop}
 use Rattle.symbol_reading.proofs.ReadingLemmas.{rises-enumerated, Rises}
 use Rattle.symbol_comparing.specs.Told.{AreValuationsOf}
-use Rattle.symbol_run.proofs.RunLemmas.{here_first, none_first, past_none, rises_on}
+use Rattle.symbol_run.proofs.RunLemmas.{here_first, none_first, past_all, rises_on}
 use Rattle.symbol_equiv.specs.Lines.{TakesTurnNoted}
 use Rattle.symbol_equiv.proofs.RunLemmas.{noting_among, noting_end, noting_large, noting_on, noting_refused, noting_start, noting_still, noting_to, turn_by}
 use Rattle.symbol_equiv.proofs.noting.note_lines.Goals as goal
@@ -78,8 +78,7 @@ loop-line-preserved g c =
 pub returns-then-is_past-clause-told : goal.returns-then-is_past-clause-told
 returns-then-is_past-clause-told g c =
     let inv = c.loop-line.invariant in
-    let none = ap (before_stop c.args.stop) c.in-Some.ensures.steps
-    ∙ past_none c.args.stop (c.in-Some.line.number, c.in-Some.line.bytes.now) c.next.new.self 0 (subst (Rises 0) c.in-Some.ensures.steps inv.rises)
+    let none = past_all c.args.stop (c.in-Some.line.number, c.in-Some.line.bytes.now) c.next.new.self _ c.in-Some.ensures.steps inv.rises
     (sym c.is_past.ensures ∙ c.if-is_past.true) in
     rw (sym c.cut_line-cut.ensures)
     (noting_end _ _ _ (g.M.LineSession.sessions c.args.session.now) _ _ _ _ (g.M.LineSession.sessions c.loop-line.session) _ _ _
