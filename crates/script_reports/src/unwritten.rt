@@ -16,7 +16,6 @@ use std::alloc::Global;
 use told_lines::{Printer, Silence};
 
 /// Obeys the lines of a script, which nobody hears, under the eyes of an onlooker, who knows the session's state.
-#[tactic(auto, using(crate::proofs::UnfailingLemmas::memory_alone))]
 pub(crate) fn run_unwritten<M: PlainStage, A: Analyst, O: Onlooker>(
     alloc: Global,
     session: &mut Session<M>,
