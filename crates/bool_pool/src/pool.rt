@@ -44,7 +44,7 @@ impl Pool {
 
     /// A pool with no gate, which looks its gates up by hashes that start from these keys.
     ///
-    /// Where the author of a text chooses the formulas, keys that were drawn keep him from choosing
+    /// If the author of a text chooses the formulas, keys that were drawn keep him from choosing
     /// gates that all fall into one place of the table.
     pub fn with_keys(alloc: Global, keys: TableKeys) -> Pool
         ensures { result ≡ [] }
@@ -190,7 +190,7 @@ impl Pool {
         self.gates.hasher().keys()
     }
 
-    // The formula of a gate: the gate is looked up, and put at the end where it is not there.
+    // The formula of a gate: the gate is looked up, and put at the end if it is not there.
     pub(crate) fn put(&mut self, gate: Gate) -> Result<Id, NoMemory>
         requires { IsOver self.old gate }
         ensures extends { Extends self.old self.new }

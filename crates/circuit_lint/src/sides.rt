@@ -16,7 +16,7 @@ use switch_paths::{GND, Graph, RAILS, Switch, VDD};
 
 /// Of a group its least node, how many nodes and switches it has, and whether some switch of it has an end
 /// at Gnd, at Vdd, and at another input node.
-#[derive(Clone, Copy, Debug, PartialEq, Eq)]
+#[derive(Clone, Copy, PartialEq, Eq)]
 pub struct Sides {
     pub node: usize,
     pub nodes: usize,

@@ -15,7 +15,7 @@ use std::alloc::{AllocError, Global};
 use switch_paths::{GND, Graph, VDD};
 
 /// A switch at Vdd from which a way leads down: its place, and how many switches are behind it.
-#[derive(Clone, Copy, Debug, PartialEq, Eq)]
+#[derive(Clone, Copy, PartialEq, Eq)]
 pub struct Start {
     pub distance: usize,
     pub place: usize,

@@ -39,7 +39,7 @@ map_chosen f h front all xs x group grown so_far here =
     map-append f xs (x ∷ []) ∙ mapped_chosen h front all (map f xs) (f x) group grown so_far here
 
 -- all chosen groups, if one is chosen at a place
-pub chosen-split : (groups : List Group) (ids : List GroupId) (i : ℕ) (d : GroupId) (group : Group) → i < length ids →
+chosen-split : (groups : List Group) (ids : List GroupId) (i : ℕ) (d : GroupId) (group : Group) → i < length ids →
     group_with groups (get_or ids i d).node ≡ Some group →
     chosen groups ids ≡ (chosen groups (take i ids) ++ group ∷ []) ++ chosen groups (drop (i + 1) ids)
 chosen-split groups ids i d group inside found =
@@ -60,7 +60,7 @@ seam_inside [] rest group = omega arith
 seam_inside (first ∷ front) rest group = omega (arith, seam_inside front rest group)
 
 -- a group that is refused, if no group before it is, is the first that is refused, or there was lack of memory
-pub split_refused : (large : ℕ) (all front rest : List Group) (group : Group) (fault : BuildFault) → all ≡ (front ++ group ∷ []) ++ rest →
+split_refused : (large : ℕ) (all front rest : List Group) (group : Group) (fault : BuildFault) → all ≡ (front ++ group ∷ []) ++ rest →
     All (λ one. refused_in large one ≡ None) front → (fault ≡ NoMemory) ⊎ IsRefused large group fault →
     (fault ≡ NoMemory) ⊎ IsFirstRefused large all fault
 split_refused large all front rest group fault all_are fits told =
@@ -69,6 +69,13 @@ split_refused large all front rest group fault all_are fits told =
     subst (All (λ one. refused_in large one ≡ None)) (sym (before_seam front rest group)) fits in
     subst (λ (groups : List Group). (fault ≡ NoMemory) ⊎ IsFirstRefused large groups fault) (sym all_are)
     (first_refused large list (length front) group fault (seam_inside front rest group) (sym (at_seam front rest group group)) fit told)
+
+-- and so it is if it is the group of an id, and no group of the ids before it is refused
+pub refused_at : (large : ℕ) (groups : List Group) (ids : List GroupId) (i : ℕ) (d : GroupId) (group : Group) (fault : BuildFault) → i < length ids →
+    group_with groups (get_or ids i d).node ≡ Some group → All (λ one. refused_in large one ≡ None) (chosen groups (take i ids)) →
+    (fault ≡ NoMemory) ⊎ IsRefused large group fault → (fault ≡ NoMemory) ⊎ IsFirstRefused large (chosen groups ids) fault
+refused_at large groups ids i d group fault inside found =
+    split_refused large (chosen groups ids) (chosen groups (take i ids)) (chosen groups (drop (i + 1) ids)) group fault (chosen-split groups ids i d group inside found)
 
 -- the groups of the first of all ids are the first groups
 chosen_front : (groups : List Group) → IsStrictlyIncreasing (map id_of groups) → (ids : List GroupId) → map (λ (id : GroupId). id.node) ids ≡ map id_of groups →

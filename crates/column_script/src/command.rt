@@ -1,7 +1,7 @@
 use script_lang::{ClockList, Command};
 
 /// A command of a test script for several columns. Each column is given a command of a plain script.
-#[derive(Debug, Drop)]
+#[derive(Drop)]
 pub enum ColumnCommand {
     /// It gives nodes values. Each has one state for all columns, or one for each of them.
     Values(ValueCommand, ClockList),
@@ -10,7 +10,7 @@ pub enum ColumnCommand {
 }
 
 /// A command that gives nodes values.
-#[derive(Clone, Copy, Debug, PartialEq, Eq)]
+#[derive(Clone, Copy, PartialEq, Eq)]
 pub enum ValueCommand {
     /// `set NAME=V..`: sets input nodes, from left to right.
     Set,

@@ -6,7 +6,7 @@ use script_lang::Name;
 use std::marker::Model;
 
 /// A sign that joins two formulas.
-#[derive(Clone, Copy, Debug, PartialEq, Eq)]
+#[derive(Clone, Copy, PartialEq, Eq)]
 pub enum Sign {
     /// `&`: both hold.
     And,
@@ -17,7 +17,7 @@ pub enum Sign {
 }
 
 /// A part of a formula.
-#[derive(Debug, Drop)]
+#[derive(Drop)]
 pub enum Part {
     /// A variable's name.
     Name(Name),

@@ -19,7 +19,7 @@ use Rattle.group_rest.specs.Rest.{Reads, Rests}
 use Rattle.group_rest.specs.Alike.{IsAlike, AlikeGroupsHaveOneText, AlikeGroupsReadAlike, AlikeGroupsRestAlike}
 
 -- lists made of the same items alike are the same
-map_same : {X : Type 0} (f h : ℕ → X) (xs : List ℕ) → ((x : ℕ) → Contains xs x → h x ≡ f x) → map h xs ≡ map f xs
+pub map_same : {X : Type 0} (f h : ℕ → X) (xs : List ℕ) → ((x : ℕ) → Contains xs x → h x ≡ f x) → map h xs ≡ map f xs
 map_same f h [] same = refl
 map_same f h (x ∷ xs) same =
     ap₂ (λ first rest. first ∷ rest) (same x (0, omega arith, refl))
@@ -115,7 +115,7 @@ module _ (g h : GraphData) (group : Group) (alike : IsAlike g h group) where
       }
 
 -- a group that is alike in two graphs is so in the other order
-IsAlike-sym : (g h : GraphData) (group : Group) → IsAlike g h group → IsAlike h g group
+pub IsAlike-sym : (g h : GraphData) (group : Group) → IsAlike g h group → IsAlike h g group
 IsAlike-sym g h group alike = record {
   here = alike.there;
   there = alike.here;

@@ -1,11 +1,7 @@
 //! The parts of texts.
 ghost use Rattle.std.specs.Prelude.{◌≡◌, ◌≢◌, List, None, Some, length, map, zip, All, IsTrue, IfOk};
 ghost use Rattle.std.specs.List.{AllZip};
-ghost use Rattle.group_text.specs.Words.{is_among, GroupTextData};
-ghost use Rattle.group_analysis.specs.Meaning.{MeansText};
-ghost use Rattle.analysis_cache.specs.Keeping.{texts_of};
-ghost use Rattle.circuit_texts.specs.Parts.{IsMadeOf};
-ghost use Rattle.kept_parts.specs.Words.{AreCoded, texts_used};
+ghost use Rattle.kept_parts.specs.Words.{is_among, GroupTextData, MeansText, texts_of, IsMadeOf, AreCoded, texts_used};
 
 use crate::uses::TextUses;
 use analysis_cache::Kept;

@@ -34,7 +34,7 @@ impl<T: Drop> From<AllocFailed<T>> for PortFault {
 }
 
 /// A file that a note is about, by what it holds.
-#[derive(Clone, Copy, Debug, PartialEq, Eq)]
+#[derive(Clone, Copy, PartialEq, Eq)]
 pub enum NotedFile {
     /// The netlist, or the deck.
     Circuit,

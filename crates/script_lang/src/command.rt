@@ -4,7 +4,7 @@ use ternary::NoMemory;
 use thiserror::Error;
 
 /// A command of a test script, of one of five families.
-#[derive(Debug, Drop)]
+#[derive(Drop)]
 pub enum Command {
     /// It edits the circuit, and writes nothing.
     Edit(Edit),
@@ -19,7 +19,7 @@ pub enum Command {
 }
 
 /// A command that edits the circuit.
-#[derive(Debug, Drop)]
+#[derive(Drop)]
 pub enum Edit {
     /// `input NAME..`: makes the nodes input nodes; their states stay.
     Input(NameList),
@@ -51,7 +51,7 @@ pub enum Edit {
 }
 
 /// A command that gives nodes states.
-#[derive(Debug, Drop)]
+#[derive(Drop)]
 pub enum Give {
     /// `set NAME=V..`: sets input nodes, from left to right.
     Set(ValueList),
@@ -62,7 +62,7 @@ pub enum Give {
 }
 
 /// A command that sets what later commands go by.
-#[derive(Debug, Drop)]
+#[derive(Drop)]
 pub enum Setup {
     /// `watch NAME..`: appends the nodes to the watch list.
     Watch(NameList),
@@ -82,7 +82,7 @@ pub enum Setup {
 }
 
 /// A command that has the circuit built first.
-#[derive(Debug, Drop)]
+#[derive(Drop)]
 pub enum Run {
     /// `step`: one unit step, and a waveform line.
     Step,
@@ -96,7 +96,7 @@ pub enum Run {
 }
 
 /// A command that tells of what is there.
-#[derive(Debug, Drop)]
+#[derive(Drop)]
 pub enum Tell {
     /// `expect NAME=V..`: a line for each name whose nodes aren't all in these states.
     Expect(ValueList),

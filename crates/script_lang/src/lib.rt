@@ -27,7 +27,7 @@ mod verb;
 pub use command::{Command, Edit, Give, Run, ScriptFault, Setup, Tell};
 pub use laws::{limits_are_as_stated, readings_are_commands_or_refusals};
 pub use lists::{ClockList, ItemList, Name, NameList, StateList, ValueList};
-pub use parts::beats;
+pub use parts::{beats, cut_at_last_equals};
 pub use reader::read_command;
 pub use value::Value;
 

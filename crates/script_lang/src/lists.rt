@@ -3,7 +3,6 @@ ghost use Rattle.std.specs.Prelude.{◌≡◌, [], ◌∷◌, ◌++◌, IfOk, On
 
 use crate::value::Value;
 use std::alloc::{AllocError, Global};
-use std::fmt;
 use std::marker::Model;
 use ternary::{NoMemory, Tern};
 
@@ -73,11 +72,5 @@ impl<T: Copy> ItemList<T> {
         Ok(ItemList {
             items: Vec::from_slice(alloc, items)?,
         })
-    }
-}
-
-impl<T: fmt::Debug> fmt::Debug for ItemList<T> {
-    fn fmt<W: fmt::Write>(&self, f: &mut fmt::Formatter<W>) -> fmt::Result {
-        self.items.fmt(f)
     }
 }

@@ -74,8 +74,8 @@ fn states(alloc: Global, letters: &[u8]) -> Result<Option<StateList>, NoMemory>
     Ok(Some(states))
 }
 
-// The name and the letters of a word, cut at its last `=`, if both have a byte.
-fn cut_at_last_equals(word: &[u8]) -> Option<(&[u8], &[u8])>
+/// The name of a word and the letters behind its last `=`, if both have a byte.
+pub fn cut_at_last_equals(word: &[u8]) -> Option<(&[u8], &[u8])>
     ensures { option_map (λ parts. (parts.0.now, parts.1.now)) result ≡ parts_of word.now }
 {
     let at = last_equals(word)?;

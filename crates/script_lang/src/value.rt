@@ -7,7 +7,7 @@ use ternary::{NoMemory, Tern};
 use vector_values::{VectorValue, read_value};
 
 /// What an assignment gives.
-#[derive(Debug, Drop)]
+#[derive(Drop)]
 pub enum Value {
     /// This state: to the node of the name, or to each node of its vector.
     Letter(Tern),

@@ -5,7 +5,7 @@ ghost use Rattle.switch_paths.specs.Path.{Joins};
 use ternary::Tern;
 
 /// The kind of a transistor.
-#[derive(Clone, Copy, Debug, PartialEq, Eq, Hash)]
+#[derive(Clone, Copy, PartialEq, Eq, Hash)]
 pub enum SwitchKind {
     /// An n-channel transistor: closed if its gate is 1.
     NChan,
@@ -28,7 +28,7 @@ pub enum SwitchState {
 
 /// A switch of a graph: its kind, its level from 9 to 15, the node of its gate, and its two ends,
 /// which are alike.
-#[derive(Clone, Copy, Debug, PartialEq, Eq, Hash)]
+#[derive(Clone, Copy, PartialEq, Eq, Hash)]
 pub struct Switch {
     pub kind: SwitchKind,
     pub level: u8,

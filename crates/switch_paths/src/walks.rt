@@ -19,7 +19,7 @@ pub struct Walk {
 }
 
 /// What is known of a live path.
-#[derive(Clone, Copy, Debug, PartialEq, Eq)]
+#[derive(Clone, Copy, PartialEq, Eq)]
 pub struct WalkFacts {
     /// The node where it ends.
     pub end: usize,

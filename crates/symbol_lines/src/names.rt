@@ -13,7 +13,7 @@ use table_keys::TableKeys;
 use ternary::NoMemory;
 use thiserror::Error;
 
-/// Why a line isn't taken for its names. Where both causes stand together, the first wins.
+/// Why a line isn't taken for its names. If both causes hold, the first is told.
 #[derive(Clone, Copy, Debug, Drop, Error, PartialEq, Eq)]
 pub enum NameFault {
     /// The line's new variables would bring the variables past `MOST_VARIABLES`.

@@ -14,7 +14,7 @@ pub enum SymbolLine {
 }
 
 /// A command that is given values.
-#[derive(Clone, Copy, Debug, PartialEq, Eq)]
+#[derive(Clone, Copy, PartialEq, Eq)]
 pub enum ValueVerb {
     /// `set NAME=V..`: sets input nodes, from left to right.
     Set,

@@ -9,7 +9,7 @@ use crate::lines::Line;
 use settling::Settled;
 use ternary::Tern;
 
-/// The waveform line of a column, where there are so many values of each.
+/// The waveform line of a column, of so many values each.
 pub(crate) fn wave_at<'a>(
     n: u64,
     counts: &[Settled],

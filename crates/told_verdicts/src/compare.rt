@@ -10,7 +10,7 @@ use told_lines::{Line, Unfailing, WaveRow};
 
 /// A place in the rows of a run: the number of the row, counted from 1, and an entry of the watch list, counted
 /// from 0.
-#[derive(Clone, Copy, Debug, PartialEq, Eq)]
+#[derive(Clone, Copy, PartialEq, Eq)]
 pub struct Place {
     pub row: u64,
     pub entry: usize,

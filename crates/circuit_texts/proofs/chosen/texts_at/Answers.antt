@@ -1,12 +1,12 @@
 -- Each chosen group before the next one has its text; the first that has none is too large.
-use Rattle.std.proofs.Common.{◌≡◌, ◌+◌, All, [], ◌∷◌, ◌++◌, take, drop, true, None, ap, subst, sym, ◌∙◌, rules}
+use Rattle.std.proofs.Common.{◌≡◌, ◌+◌, All, [], ◌∷◌, ◌++◌, take, true, None, ap, subst, sym, ◌∙◌, rules}
 use Rattle.std.specs.Result.{is_ok}
 use Rattle.std.proofs.lemmas.List.Elements.{All-push}
 use Rattle.channel_groups.proofs.HeldLemmas.{IsGroup-found}
 use Rattle.group_text.specs.Texts.{local_nodes, text_of_group}
 use Rattle.circuit_texts.specs.Sizes.{fault_in}
 use Rattle.circuit_texts.specs.Choosing.{chosen}
-use Rattle.circuit_texts.proofs.ChosenLemmas.{chosen-more, chosen-split, mapped_chosen, map_chosen, split_refused}
+use Rattle.circuit_texts.proofs.ChosenLemmas.{chosen-more, refused_at, mapped_chosen, map_chosen}
 use Rattle.circuit_texts.proofs.chosen.texts_at.Goals as goal
 
 pub text_or_fault-requires : goal.text_or_fault-requires
@@ -15,25 +15,18 @@ text_or_fault-requires c =
 
 pub returns-in_err-text-clause-too_large : goal.returns-in_err-text-clause-too_large
 returns-in_err-text-clause-too_large c =
-    let groups = c.args.groups.now.groups in
-    let group = c.group.result.now in
-    let i = c.loop-id.id-index in
-    let ids = c.args.ids.now in
-    let split = chosen-split groups ids i _ group c.loop-id-test.true c.group.ensures in
-    let told = split_refused 0 (chosen groups ids) (chosen groups (take i ids)) (chosen groups (drop (i + 1) ids)) group c.in_err-text.field-0.0 split
-    c.loop-id.invariant.fits c.in_err-text.ensures.too_large in
+    let told = refused_at 0 c.args.groups.now.groups c.args.ids.now c.loop-id.id-index _ c.group.result.now c.in_err-text.field-0.0
+    c.loop-id-test.true c.group.ensures c.loop-id.invariant.fits c.in_err-text.ensures.too_large in
     search rules
 
 pub loop-id-preserved : goal.loop-id-preserved
 loop-id-preserved c =
-    let groups = c.args.groups.now.groups in
     let group = c.group.result.now in
-    let i = c.loop-id.id-index in
-    let ids = c.args.ids.now in
     let graph = c.args.graph.now in
-    let front = chosen groups (take i ids) in
-    let all = chosen groups (take (i + 1) ids) in
-    let grown : all ≡ front ++ group ∷ [] = chosen-more groups ids i _ group c.loop-id-test.true c.group.ensures in
+    let front = chosen c.args.groups.now.groups (take c.loop-id.id-index c.args.ids.now) in
+    let all = chosen c.args.groups.now.groups (take (c.loop-id.id-index + 1) c.args.ids.now) in
+    let grown : all ≡ front ++ group ∷ [] =
+    chosen-more c.args.groups.now.groups c.args.ids.now c.loop-id.id-index _ group c.loop-id-test.true c.group.ensures in
     let ok : is_ok c.push.result ≡ true = sym c.map_err.ensures.variant ∙ ap is_ok c.in_ok-map_err.was in
     let pushed : c.push.new.self.items ≡ c.loop-id.texts.items ++ c.in_ok-text.text ∷ [] = rw ok at c.push.ensures.items in
     let ok_too : is_ok c.push-in-loop-id.result ≡ true = sym c.map_err-in-loop-id.ensures.variant ∙ ap is_ok c.in_ok-map_err-2.was in

@@ -6,5 +6,4 @@ pub returns : goal.returns
 returns c =
     let all = chosen-all c.args.groups.now.groups c.requires.ascending c.in_ok-ids.ids.items c.deref.result.now c.deref.ensures.value
     c.in_ok-ids.ensures.ids c.in_ok-ids.ensures.all in
-    let made = c.texts_at.ensures in
-    record { texts = rw all at made.texts; maps = rw all at made.maps; fits = rw all at made.fits; too_large = rw all at made.too_large }
+    record { texts = rw all at c.texts_at.ensures.texts; maps = rw all at c.texts_at.ensures.maps; fits = rw all at c.texts_at.ensures.fits; too_large = rw all at c.texts_at.ensures.too_large }
