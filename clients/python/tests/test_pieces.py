@@ -17,7 +17,7 @@ def test_pieces_make_up_the_whole(whole: int, workers: int, size: int | None) ->
     assert all(this > 0 for this in sizes)
     assert sizes == sorted(sizes, reverse=True)
     if size is None:
-        assert len(sizes) <= 48 * workers
+        assert len(sizes) <= 8 * workers
 
 
 def test_a_list_is_cut_at_its_faults() -> None:

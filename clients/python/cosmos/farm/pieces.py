@@ -47,12 +47,12 @@ def piece_sizes(whole: int, workers: int, size: Optional[int]) -> Iterator[int]:
     """The sizes of pieces that make up a whole.
 
     They are `size`, if that is given. If not, they are large first and then smaller and smaller: each piece reads the
-    netlist anew, so few pieces cost least, and with small ones at the end all workers end at about the same time.
+    netlist and takes the good run anew, so few pieces cost least, and with small ones at the end all workers end at about the same time.
     """
-    least = max(1, whole // (24 * workers))
+    least = max(1, whole // (16 * workers))
     left = whole
     while left > 0:
-        this = min(left, max(least, left // (3 * workers)) if size is None else size)
+        this = min(left, max(least, left // (2 * workers)) if size is None else size)
         yield this
         left -= this
 
