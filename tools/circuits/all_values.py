@@ -35,6 +35,7 @@ def adder(width):
     for name in "ab":
         named(circuit, name, word_down(name, width))
     named(circuit, "sum", [carry] + sums[::-1])
+    circuit.command("limit 1000")
     circuit.command("input a b cin")
     circuit.command(f"set a=$a{{{width - 1}:0}} b=$b{{{width - 1}:0}} cin=$cin")
     circuit.phase()
