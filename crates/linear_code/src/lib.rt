@@ -23,4 +23,4 @@ mod reading;
 pub use listing::Listing;
 pub use listing_text::TextPlace;
 pub use reading::{ListingFault, read_listing};
-pub use straight_code::{Code, Instruction, Operand, Output, Part, linearise};
+pub use straight_code::{Code, Instruction, Operand, Output, Part};

@@ -1,8 +1,9 @@
 -- A run over the array: each instruction gives its result there, and each output its state.
-use Rattle.std.proofs.Common.{◌≡◌, ℕ, ◌+◌, ◌*◌, ◌<◌, Bool, true, false, List, [], ◌∷◌, ◌++◌, length, map, take, get_or, set, All, sym, ap, ◌∙◌, arith, append_assoc}
-use Rattle.std.proofs.lemmas.List.{get_or-map, map_more, take_more, take_more_set, length-take-le}
+use Rattle.std.proofs.Common.{◌≡◌, ℕ, zero, suc, ◌+◌, ◌*◌, ◌<◌, Bool, true, false, List, [], ◌∷◌, ◌++◌, length, map, take, get_or, set, All, refl, sym, ap, ◌∙◌, arith, append_assoc}
+use Rattle.std.proofs.lemmas.List.{get_or-map, length-map, map_more, take_more, take_more_set, length-take-le}
 use Rattle.std.proofs.lemmas.Option.{slice_get-get_or}
 use Rattle.ternary.specs.declared.tern.Tern.{Tern}
+use Rattle.ternary.specs.declared.tern.Tern.TheVariants.{Zero}
 use Rattle.straight_code.specs.declared.code.Operand.TheVariants.{Constant}
 use Rattle.straight_code.specs.declared.code.Instruction.{Instruction}
 use Rattle.straight_code.specs.declared.code.Instruction.TheVariants.{Not, And, Or}
@@ -10,8 +11,9 @@ use Rattle.straight_code.specs.declared.code.Output.{Output}
 use Rattle.straight_code.specs.declared.flat.StepKind.TheVariants as kind
 use Rattle.straight_code.specs.declared.flat.FlatStep.{FlatStep}
 use Rattle.straight_code.specs.declared.flat.FlatOutput.{FlatOutput}
-use Rattle.straight_code.specs.Code.{AreAllowed, IsOutput, ReadsEarlier, instruction_value, output_state, results}
-use Rattle.straight_code.specs.Flat.{step_of, pair_of, rails, flat_values, step_value, pair_value}
+use Rattle.straight_code.specs.declared.flat.FlatCode.{FlatCode}
+use Rattle.straight_code.specs.Code.{AreAllowed, CodeData, IsCode, IsOutput, ReadsEarlier, instruction_value, output_state, results}
+use Rattle.straight_code.specs.Flat.{step_of, pair_of, rails, flat_values, step_value, pair_value, IsFlat}
 use Rattle.straight_code.proofs.FlatLemmas.{place_within, step_value-of, pair_value-of}
 use Rattle.straight_code.proofs.ResultLemmas.{length-results, results-more}
 
@@ -127,3 +129,34 @@ module _ (input : List Tern) (instructions : List Instruction) (outputs : List O
       ∙ ap (λ front. front ++ state ∷ []) so_far
       ∙ ap (λ last. map (output_state input all_results) (take k outputs) ++ last ∷ []) own
       ∙ sym (map_more (output_state input all_results) outputs k past inside)
+
+-- ---- whatever the inputs
+
+-- there are states for any number of inputs
+pub some_input : (count : ℕ) → (input : List Tern) × (length input ≡ count)
+some_input zero = ([], refl)
+some_input (suc count) = let rest = some_input count in (Zero ∷ rest.0, ap suc rest.1)
+
+module _ (code : CodeData) (steps : List FlatStep) (flat : steps ≡ map (step_of code.inputs) code.instructions) (is_code : IsCode code) where
+  -- there is an instruction over the places for each
+  pub length-steps : length steps ≡ length code.instructions
+  length-steps = ap length flat ∙ length-map code.instructions (step_of code.inputs)
+
+  -- an instruction reads what stands before its result
+  pub step_reads : (k : ℕ) → k < length code.instructions → IsWithin (get_or steps k no_step) (2 + 2 * code.inputs + k)
+  step_reads k inside =
+      let some = some_input code.inputs in
+      let many = some.1 in
+      let within = reads_within some.0 code.instructions steps (rw many flat) (rw many is_code.reads) k inside no_step in
+      record { a = omega (arith, within.a, many); b = omega (arith, within.b, many) }
+
+module _ (code : CodeData) (flat : FlatCode) (is_flat : IsFlat code.inputs code.instructions code.outputs flat) (is_code : IsCode code)
+    (k : ℕ) (inside : k < length code.outputs) (pair : FlatOutput) (is_pair : pair ≡ get_or flat.outputs.items k pair) where
+  -- the rails of an output stand in the array
+  pub pair_reads : IsPairWithin pair (2 + 2 * code.inputs + length code.instructions)
+  pair_reads =
+      let some = some_input code.inputs in
+      let many = some.1 in
+      let within : IsPairWithin (get_or flat.outputs.items k pair) (2 + 2 * length some.0 + length code.instructions) =
+      pair_within some.0 code.instructions code.outputs flat.outputs.items (rw many is_flat.pairs) (rw many is_code.outputs) k inside pair no_output in
+      rw (many, ← is_pair) at within

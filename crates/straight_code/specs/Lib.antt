@@ -1,7 +1,4 @@
 pub mod Code
-pub mod Linear
-pub mod Places
-pub mod Lowering
 pub mod Parts
 pub mod Flat
 pub mod Words

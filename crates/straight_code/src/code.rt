@@ -67,9 +67,9 @@ impl Model for Code {
 }
 
 impl Code {
-    // The code with these instructions and outputs. Code with too many inputs or instructions for its
-    // dense form is refused as lack of memory.
-    pub(crate) fn new(
+    /// The code with these instructions and outputs. Code with too many inputs or instructions for its
+    /// dense form is refused as lack of memory.
+    pub fn new(
         alloc: Global,
         inputs: usize,
         instructions: Vec<Instruction>,

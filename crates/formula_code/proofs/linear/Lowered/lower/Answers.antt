@@ -1,8 +1,8 @@
 -- The gate at a place more is lowered.
 use Rattle.std.proofs.Common.{sym, subst, ◌∙◌}
 use Rattle.bool_pool.specs.Gate.{IsOperand}
-use Rattle.straight_code.proofs.LoweringLemmas.{AreLowered-more}
-use Rattle.straight_code.proofs.linear.Lowered.lower.Goals as goal
+use Rattle.formula_code.proofs.LoweringLemmas.{AreLowered-more}
+use Rattle.formula_code.proofs.linear.Lowered.lower.Goals as goal
 
 pub returns : goal.returns
 returns c = λ inputs places variable before.

@@ -5,13 +5,13 @@ ghost use Rattle.std.specs.List.Sorted.{IsStrictlyIncreasing};
 ghost use Rattle.indexmap.specs.IndexMap.{get};
 ghost use Rattle.bool_pool.specs.Words.{gate_at, IsOperand, IsVariable, AreReaching, HasVariablesBelow, ReachExactly};
 ghost use Rattle.dual_rail.specs.Conduct.{AreInside};
-ghost use Rattle.straight_code.specs.Words.{Means, rail_of, operand_at, with_gate, gate_operand, output_of, AreNoted, AreLowered};
+ghost use Rattle.formula_code.specs.Words.{Means, rail_of, operand_at, with_gate, gate_operand, output_of, AreNoted, AreLowered};
 
-use crate::code::{Code, Instruction, Operand, Output};
 use bool_pool::{Gate, Id, Pool, Rails};
 use indexmap::IndexMap;
 use std::alloc::{AllocError, Global};
 use std::collections::BTreeSet;
+use straight_code::{Code, Instruction, Operand, Output};
 use ternary::NoMemory;
 
 /// Code with an output for each pair of formulas.

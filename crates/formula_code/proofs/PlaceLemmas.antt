@@ -11,7 +11,7 @@ use Rattle.bool_pool.specs.Pairs.{AreReaching}
 use Rattle.bool_pool.proofs.ReachLemmas.{Reaches-trans, Reaches-down}
 use Rattle.bool_pool.proofs.CollectLemmas.{AnyReaches-contained, AnyReaches-by}
 use Rattle.dual_rail.specs.Conduct.{AreInside}
-use Rattle.straight_code.specs.Places.{IsRoot}
+use Rattle.formula_code.specs.Places.{IsRoot}
 
 -- the places of one pair more
 pub IsRoot-more : (outs : List Rails) (count place : ℕ) (rails : Rails) (old new : List ℕ) → slice_get outs count ≡ Some rails

@@ -5,8 +5,8 @@ use Rattle.std.proofs.lemmas.Option.{slice_get-get_or}
 use Rattle.std.proofs.lemmas.Result.{IfOk-weaker}
 use Rattle.bool_pool.specs.declared.gate.Rails.{Rails}
 use Rattle.bool_pool.proofs.CollectLemmas.{Contains-inserted_two}
-use Rattle.straight_code.proofs.PlaceLemmas.{IsRoot-more, IsRoot-inside, listed_as_reached}
-use Rattle.straight_code.proofs.linear.reached_places.Goals as goal
+use Rattle.formula_code.proofs.PlaceLemmas.{IsRoot-more, IsRoot-inside, listed_as_reached}
+use Rattle.formula_code.proofs.linear.reached_places.Goals as goal
 
 pub loop-rails-init : goal.loop-rails-init
 loop-rails-init c = λ place. (λ held. absurd (omega (arith, held.1, c.new-roots.ensures.len)), λ root. absurd (omega (arith, root.before)))

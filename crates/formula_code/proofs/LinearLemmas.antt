@@ -21,11 +21,11 @@ use Rattle.bool_pool.specs.Pairs.{AreReaching, HasVariablesBelow, ReachExactly}
 use Rattle.straight_code.specs.declared.code.Operand.{Operand}
 use Rattle.straight_code.specs.declared.code.Instruction.{Instruction}
 use Rattle.straight_code.specs.Code.{results, IsCode, IsOutput}
-use Rattle.straight_code.specs.Linear.{HasValues, Means}
-use Rattle.straight_code.specs.Lowering.{is_operation, operations, operand_at, output_of, AreNoted, IsValueOf, AreLowered}
+use Rattle.formula_code.specs.Linear.{HasValues, Means}
+use Rattle.formula_code.specs.Lowering.{is_operation, operations, operand_at, output_of, AreNoted, IsValueOf, AreLowered}
 use Rattle.bool_pool.proofs.CollectLemmas.{below_listed}
-use Rattle.straight_code.proofs.PlaceLemmas.{AreReaching-operand}
-use Rattle.straight_code.proofs.LoweringLemmas.{value_noted}
+use Rattle.formula_code.proofs.PlaceLemmas.{AreReaching-operand}
+use Rattle.formula_code.proofs.LoweringLemmas.{value_noted}
 
 -- numbers that rise differ
 distinct_from_rising : (places : List ℕ) → IsStrictlyIncreasing places → IsDistinct nat_eq places

@@ -17,7 +17,7 @@ use Rattle.straight_code.specs.declared.code.Operand.TheVariants.{Constant, High
 use Rattle.straight_code.specs.declared.code.Instruction.{Instruction}
 use Rattle.straight_code.specs.declared.code.Instruction.TheVariants as instruction
 use Rattle.straight_code.specs.Code.{instruction_value, results, AreAllowed}
-use Rattle.straight_code.specs.Lowering.{is_operation, operations, rail_of, operand_at, with_gate, gate_operand, IsValueOf, AreLowered}
+use Rattle.formula_code.specs.Lowering.{is_operation, operations, rail_of, operand_at, with_gate, gate_operand, IsValueOf, AreLowered}
 use Rattle.straight_code.proofs.ResultLemmas.{IsAllowed-more, operand_value-added, earlier-added}
 
 -- what is noted is what stands for the place

@@ -4,12 +4,12 @@ use Rattle.std.specs.Map.{lookup}
 use Rattle.std.proofs.lemmas.List.{take_more}
 use Rattle.std.proofs.lemmas.List.Elements.{Contains-get_or}
 use Rattle.indexmap.specs.IndexMap.{get}
-use Rattle.straight_code.specs.Lowering.{AreLowered}
-use Rattle.straight_code.proofs.PlaceLemmas.{AreReaching-inside}
-use Rattle.straight_code.proofs.LoweringLemmas.{AreLowered-none}
-use Rattle.straight_code.proofs.LinearLemmas.{AreLowered-all, operand_before, variable_below, pairs_noted, operations_exactly, program, means}
-use Rattle.straight_code.proofs.linear.linearise.Goals.{In_ok-outputs}
-use Rattle.straight_code.proofs.linear.linearise.Goals as goal
+use Rattle.formula_code.specs.Lowering.{AreLowered}
+use Rattle.formula_code.proofs.PlaceLemmas.{AreReaching-inside}
+use Rattle.formula_code.proofs.LoweringLemmas.{AreLowered-none}
+use Rattle.formula_code.proofs.LinearLemmas.{AreLowered-all, operand_before, variable_below, pairs_noted, operations_exactly, program, means}
+use Rattle.formula_code.proofs.linear.linearise.Goals.{In_ok-outputs}
+use Rattle.formula_code.proofs.linear.linearise.Goals as goal
 
 pub loop-place-init : goal.loop-place-init
 loop-place-init c =

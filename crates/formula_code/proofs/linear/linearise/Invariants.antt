@@ -1,8 +1,8 @@
 -- The places so far are lowered.
 use Rattle.std.proofs.Common.{take, nat_eq}
 use Rattle.indexmap.specs.IndexMap.{get}
-use Rattle.straight_code.specs.Lowering.{AreLowered}
-use Rattle.straight_code.proofs.linear.linearise.Given as goal
+use Rattle.formula_code.specs.Lowering.{AreLowered}
+use Rattle.formula_code.proofs.linear.linearise.Given as goal
 
 abbrev pub invariant-loop-place : goal.invariant-loop-place
 invariant-loop-place l =

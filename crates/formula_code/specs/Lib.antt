@@ -1,0 +1,4 @@
+pub mod Linear
+pub mod Places
+pub mod Lowering
+pub mod Words
