@@ -4,6 +4,7 @@ use mir.Val.{bool_byte}
 use Rattle.std.specs.Prelude.{bit_xor}
 use Rattle.std.specs.Int.{bit_at}
 use Rattle.std.proofs.lemmas.Nat.Bits.{bit_at_set_same, bit_at_set_other}
+use Rattle.std.proofs.Math.Bool.{or-true, or-false}
 use Rattle.ternary.specs.declared.tern.Tern.{Tern}
 use Rattle.ternary.specs.declared.tern.Tern.TheVariants.{Zero, One, Unk}
 use Rattle.ternary.specs.Tern.{may_one, may_zero, join}
@@ -15,20 +16,12 @@ use Rattle.part_words.specs.Members.{HasState}
 
 -- ---- one bit more
 
-or_true : (b : Bool) → (b || true) ≡ true
-or_true true = refl
-or_true false = refl
-
-or_false : (b : Bool) → (b || false) ≡ b
-or_false true = refl
-or_false false = refl
-
 -- a column's bit is set too, if it is to be
 pub column-with_same : (word column : ℕ) (set : Bool) → column < 64 →
     is_in_column column (bit_or word (bool_byte set * 2 ^ column % 18446744073709551616)) ≡ (is_in_column column word || set)
 unfolding is_in_column
 column-with_same word column true inside =
-    ap (λ bit. bit == 1) (bit_at_set_same w64 word column inside) ∙ sym (or_true (bit_at word column == 1))
+    ap (λ bit. bit == 1) (bit_at_set_same w64 word column inside) ∙ sym (or-true (bit_at word column == 1))
 column-with_same word column false inside =
     let none : bool_byte false * 2 ^ column % 18446744073709551616 ≡ 0 = omega arith in
     ap (λ n. is_in_column column (bit_or word n)) none ∙ (column-or column word 0 ∙ ap (λ x. is_in_column column word || x) (column-none column))
@@ -40,7 +33,7 @@ unfolding is_in_column
 column-with_other word column true inside other differs = ap (λ bit. bit == 1) (bit_at_set_other w64 word column inside other differs)
 column-with_other word column false inside other differs =
     let none : bool_byte false * 2 ^ column % 18446744073709551616 ≡ 0 = omega arith in
-    ap (λ n. is_in_column other (bit_or word n)) none ∙ column-or other word 0 ∙ (ap (λ x. is_in_column other word || x) (column-none other) ∙ or_false (is_in_column other word))
+    ap (λ n. is_in_column other (bit_or word n)) none ∙ column-or other word 0 ∙ (ap (λ x. is_in_column other word || x) (column-none other) ∙ or-false (is_in_column other word))
 
 -- ---- states
 

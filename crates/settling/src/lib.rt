@@ -46,7 +46,7 @@ pub use moved::Moved;
 pub use observer::{Blind, Never, Observer};
 pub use observing::settle_seen;
 pub use onlooker::{Onlooker, unfailing};
-pub use plain_stepping::PlainStepper;
+pub use plain_stepping::{PlainStepper, moves_after, moves_raised};
 pub use recall::Recall;
 pub use seen_stepping::SeenStepper;
 pub use settling::{MOST_LIMIT, Settled, settle};

@@ -176,16 +176,16 @@ impl SeenStepper for PlainStepper {
     }
 }
 
-// The number of moves after a call that changed the state, or didn't.
-fn moves_after(moves: u64, changed: bool) -> u64
+/// The number of moves after a step that changed the state, or didn't.
+pub fn moves_after(moves: u64, changed: bool) -> u64
     ensures moved { OnTrue changed (result ≡ raised moves 1) }
     ensures rested { OnFalse changed (result ≡ moves) }
 {
     moves.saturating_add(u64::from(changed))
 }
 
-// The number of moves after so many more.
-fn moves_raised(moves: u64, count: u64) -> u64
+/// The number of moves after so many steps more that changed the state.
+pub fn moves_raised(moves: u64, count: u64) -> u64
     ensures { result ≡ raised moves count }
 {
     moves.saturating_add(count)

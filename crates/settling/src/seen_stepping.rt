@@ -1,8 +1,7 @@
 //! What steps under the eyes of an observer: a stepper that lists the nodes that a step changed.
 ghost use Rattle.std.specs.Prelude.{◌≡◌, ◌≢◌, ℕ, ◌^◌, ◌<◌, length};
 ghost use Rattle.std.specs.Bool.{OnTrue, OnFalse};
-ghost use Rattle.switch_paths.specs.Graphs.{GraphData};
-ghost use Rattle.switch_paths.specs.Step.{IsStep};
+ghost use Rattle.switch_paths.specs.Words.{GraphData, IsStep};
 ghost use Rattle.settling.specs.Settling.{IsJoinStep, StaysOrBecomesX};
 ghost use Rattle.settling.specs.Moved.{ListsChanges};
 ghost use Rattle.ternary.specs.Counts.{raised};

@@ -1,5 +1,5 @@
 -- A run in a column: the array's bits of the column are the array of the machine's run on the column's states.
-use Rattle.std.proofs.Common.{◌≡◌, ℕ, zero, suc, ◌+◌, ◌*◌, ◌<◌, ◌≤◌, Bool, true, false, List, [], ◌∷◌, ◌++◌, length, map, take, get_or, set, refl, sym, ap, ap₂, ◌∙◌, arith}
+use Rattle.std.proofs.Common.{◌≡◌, ℕ, ◌+◌, ◌*◌, ◌<◌, ◌≤◌, Bool, true, false, List, [], ◌∷◌, ◌++◌, length, map, take, get_or, set, sym, ap, ap₂, ◌∙◌, arith}
 use Rattle.std.proofs.lemmas.List.{get_or-map, get_or-take, map_more, take_more_set, length-map, length-take-le, take_all}
 use Rattle.ternary.specs.declared.tern.Tern.{Tern}
 use Rattle.ternary.specs.declared.tern.Tern.TheVariants.{Zero}
@@ -11,7 +11,7 @@ use Rattle.straight_code.specs.Code.{CodeData, IsCode, settled, results, output_
 use Rattle.straight_code.specs.Flat.{IsFlat, flat_values, pair_value, step_value, kind_value, step_of}
 use Rattle.straight_code.specs.declared.flat.FlatCode.{FlatCode}
 use Rattle.straight_code.proofs.FlatLemmas.{constants_written, rails_written}
-use Rattle.straight_code.proofs.RunMappedLemmas.{no_step, no_output, IsWithin, IsPairWithin, reads_within, result_written, pair_within, pair_state}
+use Rattle.straight_code.proofs.RunMappedLemmas.{no_step, no_output, IsWithin, length-steps, result_written, pair_reads, pair_state, step_reads}
 use Rattle.word_columns.specs.Columns.{is_in_column, column_bits, AreRailsIn}
 use Rattle.word_columns.proofs.ColumnLemmas.{column-all, column-none, column_bits-at, column_bits-set, column_bits-take, length-column_bits}
 
@@ -73,30 +73,13 @@ rail_written column rail states out k word inside room is so_far =
     ∙ ap₂ (λ (front : List Bool) (last : Bool). front ++ last ∷ []) so_far is
     ∙ sym (map_more rail states k Zero inside)
 
--- there are states for any number of inputs
-pub some_input : (count : ℕ) → (input : List Tern) × (length input ≡ count)
-some_input zero = ([], refl)
-some_input (suc count) = let rest = some_input count in (Zero ∷ rest.0, ap suc rest.1)
-
 module _ (code : CodeData) (steps : List FlatStep) (flat : steps ≡ map (step_of code.inputs) code.instructions) (is_code : IsCode code) where
-  -- there is an instruction over the places for each
-  pub length-steps : length steps ≡ length code.instructions
-  length-steps = ap length flat ∙ length-map code.instructions (step_of code.inputs)
-
-  -- an instruction reads what stands before its result
-  pub step_reads : (k : ℕ) → k < length code.instructions → IsWithin (get_or steps k no_step) (2 + 2 * code.inputs + k)
-  step_reads k inside =
-      let some = some_input code.inputs in
-      let many = some.1 in
-      let within = reads_within some.0 code.instructions steps (rw many flat) (rw many is_code.reads) k inside no_step in
-      record { a = omega (arith, within.a, many); b = omega (arith, within.b, many) }
-
   -- the array before its result has these places
   pub front_read : (first k : ℕ) (values : List ℕ) → first ≡ code.inputs → k < length steps → 2 + 2 * code.inputs + length code.instructions ≤ length values
       → IsWithin (get_or steps k no_step) (length (take (2 + 2 * first + k) values))
   front_read first k values counted stands room =
-      let inside : k < length code.instructions = omega (arith, stands, length-steps) in
-      let within = step_reads k inside in
+      let inside : k < length code.instructions = omega (arith, stands, length-steps code steps flat is_code) in
+      let within = step_reads code steps flat is_code k inside in
       rw (length-take-le (2 + 2 * first + k) values (omega (arith, counted, inside, room))) (record { a = omega (arith, within.a, counted); b = omega (arith, within.b, counted) })
 
   -- once its result is written, the array has the results up to it in a column
@@ -107,7 +90,7 @@ module _ (code : CodeData) (steps : List FlatStep) (flat : steps ≡ map (step_o
       take (2 + 2 * code.inputs + (k + 1)) (column_bits column (set values (2 + 2 * code.inputs + k) word))
       ≡ flat_values input (results input (take (k + 1) code.instructions))
   step_written k stands column input values word many room is so_far =
-      let inside : k < length code.instructions = omega (arith, stands, length-steps) in
+      let inside : k < length code.instructions = omega (arith, stands, length-steps code steps flat is_code) in
       let place = 2 + 2 * length input + k in
       let same : 2 + 2 * code.inputs + k ≡ place = omega (arith, many) in
       let next : 2 + 2 * code.inputs + (k + 1) ≡ 2 + 2 * length input + (k + 1) = omega (arith, many) in
@@ -127,32 +110,24 @@ module _ (code : CodeData) (steps : List FlatStep) (flat : steps ≡ map (step_o
       take (2 + 2 * code.inputs + count) (column_bits column values) ≡ flat_values input (results input (take count code.instructions)) →
       take (2 + 2 * code.inputs + length code.instructions) (column_bits column values) ≡ flat_values input (results input code.instructions)
   all_written count column input values last so_far =
-      let end : count ≡ length code.instructions = last ∙ length-steps in
+      let end : count ≡ length code.instructions = last ∙ length-steps code steps flat is_code in
       rw (end, take_all (length code.instructions) code.instructions (omega arith)) at so_far
 
 module _ (code : CodeData) (flat : FlatCode) (is_flat : IsFlat code.inputs code.instructions code.outputs flat) (is_code : IsCode code)
     (k : ℕ) (inside : k < length code.outputs) (pair : FlatOutput) (is_pair : pair ≡ get_or flat.outputs.items k pair) where
-  -- the rails of an output stand in the array
-  pub pair_reads : IsPairWithin pair (2 + 2 * code.inputs + length code.instructions)
-  pair_reads =
-      let some = some_input code.inputs in
-      let many = some.1 in
-      let within : IsPairWithin (get_or flat.outputs.items k pair) (2 + 2 * length some.0 + length code.instructions) =
-      pair_within some.0 code.instructions code.outputs flat.outputs.items (rw many is_flat.pairs) (rw many is_code.outputs) k inside pair no_output in
-      rw (many, ← is_pair) at within
-
-  -- and over the array in which the code ran they are those of its state
+  -- over the array in which the code ran the rails of an output are those of its state
   pub output_in_column : (column : ℕ) (input : List Tern) (values : List ℕ) → length input ≡ code.inputs →
       2 + 2 * code.inputs + length code.instructions ≤ length values →
       take (2 + 2 * code.inputs + length code.instructions) (column_bits column values) ≡ flat_values input (results input code.instructions) →
       settled (is_in_column column (get_or values pair.hi 0)) (is_in_column column (get_or values pair.lo 0)) ≡ state_at (code_value code input) k
   output_in_column column input values many room whole =
       let end = 2 + 2 * code.inputs + length code.instructions in
+      let reads = pair_reads code flat is_flat is_code k inside pair is_pair in
       let state = pair_state input code.instructions code.outputs flat.outputs.items (rw many is_flat.pairs) (rw many is_code.outputs) k inside
       pair no_output (take end (column_bits column values)) whole in
       let own : pair_value (take end (column_bits column values)) pair ≡ output_state input (results input code.instructions) (get_or code.outputs k no_output) =
       ap (pair_value (take end (column_bits column values))) is_pair ∙ state in
-      pair_in_column column values pair (omega (arith, pair_reads.hi, room)) (omega (arith, pair_reads.lo, room))
-      ∙ ap₂ settled (sym (get_or-take end (column_bits column values) pair.hi false pair_reads.hi)) (sym (get_or-take end (column_bits column values) pair.lo false pair_reads.lo))
+      pair_in_column column values pair (omega (arith, reads.hi, room)) (omega (arith, reads.lo, room))
+      ∙ ap₂ settled (sym (get_or-take end (column_bits column values) pair.hi false reads.hi)) (sym (get_or-take end (column_bits column values) pair.lo false reads.lo))
       ∙ own
       ∙ sym (get_or-map (output_state input (results input code.instructions)) code.outputs k no_output Zero inside)

@@ -22,3 +22,4 @@ mod run;
 mod word;
 
 pub use run::{output_words, run_steps, run_words};
+pub use word::{kind_word, used_columns};

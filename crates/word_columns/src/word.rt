@@ -1,12 +1,21 @@
 //! Instructions and outputs on words.
-ghost use Rattle.std.specs.Prelude.{◌≡◌, ℕ, ◌<◌, length};
+ghost use Rattle.std.specs.Prelude.{◌≡◌, ℕ, ◌<◌, ◌≤◌, length};
 ghost use Rattle.ternary.specs.Tern.{may_one, may_zero};
 ghost use Rattle.straight_code.specs.Code.{settled};
 ghost use Rattle.straight_code.specs.Flat.{kind_value, step_value};
-ghost use Rattle.word_columns.specs.Columns.{is_in_column, column_bits};
+ghost use Rattle.word_columns.specs.Columns.{is_in_column, column_bits, AreUsed};
 ghost use Rattle.word_columns.specs.Words.{is_not, is_or};
 
 use straight_code::{FlatStep, StepKind};
+
+/// The bits of the first columns, so many.
+pub fn used_columns(columns: u32) -> u64
+    requires some { 1 ≤ columns }
+    requires few { columns ≤ 64 }
+    ensures { AreUsed columns result }
+{
+    u64::MAX >> (64 - columns)
+}
 
 // The result of an instruction, in all columns.
 pub(crate) fn step_words(step: FlatStep, values: &[u64]) -> u64
@@ -17,8 +26,8 @@ pub(crate) fn step_words(step: FlatStep, values: &[u64]) -> u64
     kind_word(step.kind, values[step.a as usize], values[step.b as usize])
 }
 
-// What an instruction of this kind gives of two words. It has no branch on the kind's result.
-fn kind_word(kind: StepKind, a: u64, b: u64) -> u64
+/// What an instruction of this kind gives of two words. It has no branch on the kind's result.
+pub fn kind_word(kind: StepKind, a: u64, b: u64) -> u64
     ensures { (column : ℕ) → column < 64 → is_in_column column result ≡ kind_value kind (is_in_column column a) (is_in_column column b) }
 {
     let turned = not_mask(kind);

@@ -1,5 +1,5 @@
 -- A column's settling, as far as all columns have come, and what is left of nodes that can still become X.
-use Rattle.std.proofs.Common.{◌≡◌, ◌≢◌, ℕ, zero, suc, ◌+◌, ◌-◌, ◌<◌, ◌≤◌, ◌↔◌, Bool, true, false, IsTrue, ◌⊎◌, inl, inr, List, length, refl, sym, ◌∙◌, ap, subst, arith}
+use Rattle.std.proofs.Common.{◌≡◌, ◌≢◌, ℕ, zero, suc, ◌+◌, ◌<◌, ◌≤◌, ◌↔◌, Bool, true, false, IsTrue, ◌⊎◌, inl, inr, List, length, refl, sym, ◌∙◌, ap, subst, arith}
 use Rattle.std.proofs.lemmas.Bool.{cases_lt}
 use Rattle.std.proofs.lemmas.Nat.Bits.{same_from_bits, bit_at-lt, bit_at-zero}
 use Rattle.std.specs.Prelude.{◌==◌}
@@ -7,77 +7,14 @@ use Rattle.std.specs.Int.{bit_at}
 use Rattle.ternary.specs.declared.tern.Tern.{Tern}
 use Rattle.switch_paths.specs.Graphs.{GraphData}
 use Rattle.switch_paths.specs.Step.{IsStep}
-use Rattle.switch_paths.proofs.UniqueSteps.{unique}
 use Rattle.settling.specs.declared.settling.Settled.{Settled}
 use Rattle.settling.specs.Settling.{Stepping, IsJoinStep, Joining, Settles, StaysOrBecomesX}
 use Rattle.settling.proofs.KnownStates.{known}
 use Rattle.settling.proofs.SettlingLemmas as one
+use Rattle.column_settling.proofs.GoingLemmas.{Going, Going-moves, Going-stays}
+use Rattle.column_settling.proofs.JoiningLemmas.{known_in, known_in-falls}
 use Rattle.word_columns.specs.Columns.{is_in_column}
 use Rattle.word_settling.specs.Settling.{counted, Joins}
-
--- ---- plain steps
-
--- so many steps were taken together, and the column counts those that changed it: what steps it takes from here on go on from them, and it
--- moved in each of them, or rests
-pub record Going (g : GraphData) (limit taken : ℕ) (old : List Tern) (count : ℕ) (now : List Tern) : Type 0 where
-  pub goes : (more : ℕ) (new : List Tern) → Stepping g (limit - count) now more new → Stepping g limit old (count + more) new
-  pub within : count ≤ taken
-  pub moved : (count ≡ taken) ⊎ IsStep g now now
-
-pub Going-start : (g : GraphData) (limit : ℕ) (old : List Tern) → Going g limit 0 old 0 old
-Going-start g limit old = record {
-  goes = λ more new rest.
-      let same : 0 + more ≡ more = omega arith in
-      let all : limit - 0 ≡ limit = omega arith in
-      subst (λ (n : ℕ). Stepping g limit old n new) (sym same) (subst (λ (n : ℕ). Stepping g n old more new) all rest);
-  within = omega arith;
-  moved = inl refl;
-}
-
-pub Going-moves : (g : GraphData) (limit taken : ℕ) (old : List Tern) (count : ℕ) (now next : List Tern) → taken < limit →
-    Going g limit taken old count now → IsStep g now next → next ≢ now → Going g limit (taken + 1) old (count + 1) next
-Going-moves g limit taken old count now next left going step changed =
-    let within : count ≤ taken = going.within in
-    elim going.moved [
-      | inl each ↦ record {
-        goes = λ more new rest. one.counted count more (λ n. Stepping g limit old n new)
-            (going.goes (more + 1) new (one.Stepping-more g limit count now next more new (omega arith) step changed rest));
-        within = omega arith;
-        moved = inl (omega arith);
-      }
-      | inr rests ↦ absurd (changed (unique g now next now step rests))
-    ]
-
-pub Going-stays : (g : GraphData) (limit taken : ℕ) (old : List Tern) (count : ℕ) (now next : List Tern) →
-    Going g limit taken old count now → IsStep g now next → next ≡ now → Going g limit (taken + 1) old count next
-Going-stays g limit taken old count now next going step same =
-    let within : count ≤ taken = going.within in
-    record {
-      goes = λ more new rest. going.goes more new (subst (λ (s : List Tern). Stepping g (limit - count) s more new) same rest);
-      within = omega arith;
-      moved = inr (subst (λ (s : List Tern). IsStep g s next) (sym same) step);
-    }
-
--- a column that rests has stepped
-pub Going-rests : (g : GraphData) (limit taken : ℕ) (old : List Tern) (count : ℕ) (now : List Tern) → taken ≤ limit →
-    Going g limit taken old count now → IsStep g now now → Stepping g limit old count now
-Going-rests g limit taken old count now few going rests =
-    let within : count ≤ taken = going.within in
-    one.counted_none count (λ n. Stepping g limit old n now)
-    (going.goes 0 now (elim (cases_lt count limit) [
-      | inl below ↦ one.Stepping-rests g limit count now now below rests refl
-      | inr reached ↦ one.Stepping-ends g limit count now reached
-    ]))
-
--- and so has each at the limit
-pub Going-ends : (g : GraphData) (limit : ℕ) (old : List Tern) (count : ℕ) (now : List Tern) →
-    Going g limit limit old count now → Stepping g limit old count now
-Going-ends g limit old count now going =
-    elim going.moved [
-      | inl each ↦ one.counted_none count (λ n. Stepping g limit old n now)
-          (going.goes 0 now (one.Stepping-ends g limit count now (omega arith)))
-      | inr rests ↦ Going-rests g limit limit old count now (omega arith) going rests
-    ]
 
 -- ---- joining steps
 
@@ -197,37 +134,6 @@ some_or_none (suc count) test = by (test count) refl (some_or_none count test)
     ])
 
 -- ---- what is left
-
--- the sum over the first so many columns
-abbrev pub sum_below : ℕ → (ℕ → ℕ) → ℕ
-sum_below zero f = 0
-sum_below (suc count) f = sum_below count f + f count
-
-sum_below-low : (count : ℕ) (f h : ℕ → ℕ) → ((k : ℕ) → k < count → f k ≤ h k) → sum_below count f ≤ sum_below count h
-sum_below-low zero f h each = omega arith
-sum_below-low (suc count) f h each =
-    omega (arith, sum_below-low count f h (λ k inside. each k (omega arith)), each count (omega arith))
-
--- where no term is more and some term is less, so is the sum
-pub sum_below-falls : (count : ℕ) (f h : ℕ → ℕ) → ((k : ℕ) → k < count → f k ≤ h k) → (k : ℕ) → k < count → f k < h k →
-    sum_below count f < sum_below count h
-sum_below-falls zero f h each k inside less = absurd (omega arith)
-sum_below-falls (suc count) f h each k inside less =
-    elim (cases_lt k count) [
-      | inl below ↦ omega (arith, sum_below-falls count f h (λ j within. each j (omega arith)) k below less, each count (omega arith))
-      | inr above ↦
-          let same : k ≡ count = omega arith in
-          let last : f count < h count = subst (λ (j : ℕ). f j < h j) same less in
-          omega (arith, sum_below-low count f h (λ j within. each j (omega arith)), last)
-    ]
-
--- how many nodes of a column are 0 or 1
-abbrev pub known_in : List Tern → ℕ
-known_in state = known (λ _. true) state
-
--- a column that changed by becoming X has fewer
-pub known_in-falls : (old new : List Tern) → length new ≡ length old → StaysOrBecomesX old new → new ≢ old → known_in new < known_in old
-known_in-falls old new count fades changed = one.all-falls old new count fades changed
 
 -- a column has no more after a step that changed it by becoming X, or didn't
 pub known_in-low : (bit : Bool) (old new : List Tern) → (bit ≡ true → new ≢ old) → (bit ≡ false → new ≡ old) → length new ≡ length old →

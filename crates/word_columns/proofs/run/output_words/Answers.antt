@@ -7,7 +7,8 @@ use Rattle.straight_code.specs.Code.{settled, results, code_value}
 use Rattle.straight_code.specs.Flat.{flat_values}
 use Rattle.word_columns.specs.Columns.{is_in_column, column_bits}
 use Rattle.straight_code.proofs.RunMappedLemmas.{IsPairWithin}
-use Rattle.word_columns.proofs.RunLemmas.{pair_reads, output_in_column}
+use Rattle.straight_code.proofs.RunMappedLemmas.{pair_reads}
+use Rattle.word_columns.proofs.RunLemmas.{output_in_column}
 use Rattle.word_columns.proofs.run.output_words.Goals.{After-index-pair}
 use Rattle.word_columns.proofs.run.output_words.Goals as goal
 

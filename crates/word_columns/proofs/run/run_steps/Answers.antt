@@ -2,7 +2,8 @@
 use Rattle.std.proofs.Common.{◌≡◌, ◌+◌, ◌*◌, take, ap, ◌∙◌, arith}
 use Rattle.straight_code.specs.Code.{results}
 use Rattle.word_columns.specs.Columns.{column_bits}
-use Rattle.word_columns.proofs.RunLemmas.{length-steps, front_read, step_written, all_written}
+use Rattle.straight_code.proofs.RunMappedLemmas.{length-steps}
+use Rattle.word_columns.proofs.RunLemmas.{front_read, step_written, all_written}
 use Rattle.word_columns.proofs.run.run_steps.Goals as goal
 
 pub loop-done-init : goal.loop-done-init

@@ -3,7 +3,8 @@ use Rattle.std.proofs.Common.{ℕ, ◌+◌, ◌<◌, ◌≤◌, true, length, ge
 use Rattle.settling.specs.declared.settling.TheConstants.{MOST_LIMIT}
 use Rattle.settling.proofs.KnownStates.{known-all}
 use Rattle.word_columns.specs.Columns.{is_in_column}
-use Rattle.word_settling.proofs.CountLemmas.{JoiningOn-start, JoiningOn-counts, JoiningOn-ends, bound-counts, no_bits, zero_bits, some_or_none, sum_below-falls, known_in, known_in-falls, known_in-low}
+use Rattle.column_settling.proofs.JoiningLemmas.{sum_below-falls, known_in, known_in-falls}
+use Rattle.word_settling.proofs.CountLemmas.{JoiningOn-start, JoiningOn-counts, JoiningOn-ends, bound-counts, no_bits, zero_bits, some_or_none, known_in-low}
 use Rattle.word_settling.proofs.phases.join_columns.Goals as goal
 
 pub joining-init : goal.joining-init

@@ -2,7 +2,8 @@
 use Rattle.std.proofs.Common.{◌≡◌, ℕ, ◌+◌, ◌<◌, ◌≤◌, length, get_or}
 use Rattle.settling.specs.declared.settling.TheConstants.{MOST_LIMIT}
 use Rattle.settling.specs.declared.settling.Settled.{Settled}
-use Rattle.word_settling.proofs.CountLemmas.{JoiningOn, known_in, sum_below}
+use Rattle.column_settling.proofs.JoiningLemmas.{known_in, sum_below}
+use Rattle.word_settling.proofs.CountLemmas.{JoiningOn}
 use Rattle.word_settling.proofs.phases.join_columns.Given as goal
 
 abbrev pub invariant-joining : goal.invariant-joining

@@ -1,7 +1,8 @@
 -- In each column one step more, the step that changes no column, and the limit.
 use Rattle.std.proofs.Common.{◌≡◌, ℕ, ◌<◌, get_or, refl, ap, ◌∙◌, arith}
 use Rattle.word_columns.specs.Columns.{is_in_column}
-use Rattle.word_settling.proofs.CountLemmas.{Going-start, Going-counts, Going-rests, Going-ends, within-counts, unjoined-counts, zero_bits}
+use Rattle.column_settling.proofs.GoingLemmas.{Going-start, Going-rests, Going-ends}
+use Rattle.word_settling.proofs.CountLemmas.{Going-counts, within-counts, unjoined-counts, zero_bits}
 use Rattle.word_settling.proofs.phases.step_columns.Goals as goal
 
 pub loop-taken-init : goal.loop-taken-init

@@ -1,7 +1,7 @@
 -- Each column goes on from the steps that it counts.
 use Rattle.std.proofs.Common.{◌≡◌, ℕ, ◌<◌, ◌≤◌, false, length, get_or}
 use Rattle.settling.specs.declared.settling.Settled.{Settled}
-use Rattle.word_settling.proofs.CountLemmas.{Going}
+use Rattle.column_settling.proofs.GoingLemmas.{Going}
 use Rattle.word_settling.proofs.phases.step_columns.Given as goal
 
 abbrev pub invariant-loop-taken : goal.invariant-loop-taken
