@@ -40,7 +40,7 @@ pub(crate) struct Names {
     table: IndexMap<Vec<u8>, usize, TableKeys>,
     // of node k + 2 the place of its first name in the table
     firsts: Vec<usize>,
-    // where in the table a name may stand, by a few of its bytes; the name that stands there decides
+    // where in the table a name may stand, by a few of its bytes, in one slot or the next; the name that stands there decides
     guesses: Vec<u32>,
 }
 
@@ -120,12 +120,23 @@ impl Names {
         }
     }
 
-    // The node of a name, if the name stands where it is guessed.
+    // The node of a name, if the name stands in one of the two places where it is guessed.
     fn guessed(&self, name: &[u8]) -> Option<usize>
         ensures value { IfSome result (λ node. node_of self.now.entries name.now ≡ Some node) }
         ensures within { IfSome result (λ node. node < node_count self.now) }
     {
-        let place = guess_of(&self.guesses, name);
+        let slot = slot_in(&self.guesses, name);
+        if let Some(node) = self.node_at(guess_at(&self.guesses, slot), name) {
+            return Some(node);
+        }
+        self.node_at(guess_behind(&self.guesses, slot), name)
+    }
+
+    // The node of a name, if the name stands at this place.
+    fn node_at(&self, place: usize, name: &[u8]) -> Option<usize>
+        ensures value { IfSome result (λ node. node_of self.now.entries name.now ≡ Some node) }
+        ensures within { IfSome result (λ node. node < node_count self.now) }
+    {
         let Some((found, node)) = self.table.get_index(place) else {
             return None;
         };
@@ -385,19 +396,48 @@ fn put_new(
     }
 }
 
-// Whether two names are one.
+// Whether two names are one: a name is short, and a comparison of slices takes longer to begin than these few bytes take.
 fn is_same(one: &[u8], other: &[u8]) -> bool
     ensures { OnTrue result (one.now ≡ other.now) }
 {
-    one == other
+    if one.len() != other.len() {
+        return false;
+    }
+    for place in 0..one.len() {
+        if one[place] != other[place] {
+            return false;
+        }
+    }
+    true
 }
 
-// Where in a table a name may stand.
-fn guess_of(guesses: &[u32], name: &[u8]) -> usize {
+// The slot among the guesses that a name goes by; the first one if there are none.
+fn slot_in(guesses: &[u32], name: &[u8]) -> usize {
     if guesses.is_empty() {
         return 0;
     }
-    guesses[slot_of(guesses.len(), name)] as usize
+    slot_of(guesses.len(), name)
+}
+
+// The guess in a slot; past the last one it is the first place.
+fn guess_at(guesses: &[u32], slot: usize) -> usize {
+    if slot < guesses.len() {
+        return guesses[slot] as usize;
+    }
+    0
+}
+
+// The guess in the slot behind this one, after the last of which comes the first.
+fn guess_behind(guesses: &[u32], slot: usize) -> usize {
+    guess_at(guesses, slot_behind(guesses, slot))
+}
+
+// The slot behind this one, after the last of which comes the first.
+fn slot_behind(guesses: &[u32], slot: usize) -> usize {
+    if slot < guesses.len() && slot + 1 < guesses.len() {
+        return slot + 1;
+    }
+    0
 }
 
 // Notes where the name at this place stands; for lack of memory for that it may not be.
@@ -421,7 +461,8 @@ fn renew_guesses(guesses: &mut Vec<u32>, table: &IndexMap<Vec<u8>, usize, TableK
     *guesses = fresh;
 }
 
-// Puts the place of a name among the guesses.
+// Puts the place of a name among the guesses, unless both slots are those of names that came earlier: an input is named early, and
+// asked for often.
 fn put_guess(guesses: &mut [u32], table: &IndexMap<Vec<u8>, usize, TableKeys>, place: usize) {
     if guesses.is_empty() {
         return;
@@ -430,8 +471,32 @@ fn put_guess(guesses: &mut [u32], table: &IndexMap<Vec<u8>, usize, TableKeys>, p
         return;
     };
     if let Some((name, _)) = table.get_index(place) {
-        let slot = slot_of(guesses.len(), name);
-        guesses[slot] = short;
+        let first = slot_of(guesses.len(), name);
+        let second = slot_behind(guesses, first);
+        if is_free(guesses, table, first, place) {
+            set_guess(guesses, first, short);
+        } else if is_free(guesses, table, second, place) {
+            set_guess(guesses, second, short);
+        }
+    }
+}
+
+// Whether a slot may have the place of a name: none that came earlier has it, but for the name at the first place, which is guessed
+// where nothing is.
+fn is_free(
+    guesses: &[u32],
+    table: &IndexMap<Vec<u8>, usize, TableKeys>,
+    slot: usize,
+    place: usize,
+) -> bool {
+    let there = guess_at(guesses, slot);
+    there == 0 || there == place || there >= table.len()
+}
+
+// Sets the guess in a slot, if it is there.
+fn set_guess(guesses: &mut [u32], slot: usize, place: u32) {
+    if slot < guesses.len() {
+        guesses[slot] = place;
     }
 }
 

@@ -1,7 +1,10 @@
-use Rattle.std.proofs.Common.{sym, ◌∙◌}
-use Rattle.std.proofs.lemmas.Bool.{OnTrue_from}
-use Rattle.std.proofs.lemmas.Slice.Eq.{bytes_eq-Decides}
+-- At one place more the same byte stands; at the end that is so at each place.
+use Rattle.std.proofs.Common.{arith}
+use Rattle.std.proofs.lemmas.List.{ext_get_or}
 use Rattle.netlist.proofs.names.is_same.Goals as goal
 
+pub loop-place-init : goal.loop-place-init
+loop-place-init c = λ k low. absurd (omega (arith, low))
+
 pub returns : goal.returns
-returns c = OnTrue_from c.eq.result _ (λ set. (bytes_eq-Decides c.args.one.now c.args.other.now).0 (sym c.eq.ensures ∙ set))
+returns c = ext_get_or 0 c.args.one.now c.args.other.now (omega arith) (λ place low. c.loop-place.invariant place (omega (arith, low)))
