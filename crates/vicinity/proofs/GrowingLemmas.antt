@@ -1,9 +1,9 @@
 -- New nodes come behind the others: who looks at an old one sees what there was, sets and lists say nothing of a new one, and groups and
 -- vicinities stay.
-use Rattle.std.proofs.Common.{◌≡◌, ℕ, zero, suc, ◌+◌, ◌-◌, ◌<◌, ◌≤◌, inl, inr, Bool, false, cond, List, [], ◌∷◌, ◌++◌, Some, length, take, refl, sym, ap, subst, ◌∙◌, arith}
+use Rattle.std.proofs.Common.{◌≡◌, ℕ, zero, suc, ◌+◌, ◌-◌, ◌<◌, ◌≤◌, inl, inr, Bool, true, false, cond, List, [], ◌∷◌, ◌++◌, Some, length, take, refl, sym, ap, subst, ◌∙◌, arith}
 use Rattle.std.specs.Prelude.{Contains, replicate, slice_index_or}
 use Rattle.std.proofs.lemmas.Bool.{cases_lt}
-use Rattle.std.proofs.lemmas.List.{length-append, length-replicate, get_or_append_left, take_all}
+use Rattle.std.proofs.lemmas.List.{length-append, length-replicate, get_or_append_left, get_or_at, take_all}
 use Rattle.std.proofs.lemmas.List.Folds.{sum_by-replicate}
 use Rattle.std.proofs.lemmas.List.Sums.{sum_by-append}
 use Rattle.strength_order.specs.declared.TheConstants.{INPUT_LEVEL}
@@ -18,7 +18,7 @@ use Rattle.group_meaning.proofs.GroupLemmas.{member_storage}
 use Rattle.group_rest.specs.Alike.{IsAlike}
 use Rattle.machine_parts.specs.Marking.{count_marked, ListsMarked}
 use Rattle.vicinity.specs.Vicinities.{live_graph, AreNear}
-use Rattle.vicinity.specs.Lists.{LiveListData, LiveListsData, places_of, all_at}
+use Rattle.vicinity.specs.Lists.{LiveListData, LiveListsData, TellGates, list_at, places_of, all_at}
 use Rattle.vicinity.specs.Arms.{LeadsTo}
 use Rattle.vicinity.specs.LiveLists.{AreListsOf}
 use Rattle.vicinity.specs.Growing.{grown_graph, no_places, with_lists}
@@ -217,3 +217,25 @@ module _ (g : GraphData) (wired : IsWired g) (count : ℕ) (state more : List Te
               ((are.gated node place).1 (record { switch = has.switch; at_place = has.at_place; gated = has.gated }))),
         );
       }
+
+-- flags tell of gates still if more nodes come that are none
+pub TellGates-grown : (flags : List Bool) (gates new : List LiveListData) → (count : ℕ) × (new ≡ gates ++ replicate count no_places) → TellGates flags gates →
+    TellGates flags new
+TellGates-grown flags gates new (count, is) tell node inside unmarked =
+    let same : list_at new node ≡ list_at gates node = ap (λ lists. list_at lists node) is ∙ default_more gates no_places count node in
+    ap (λ (list : LiveListData). length list.items) same ∙ tell node inside unmarked
+
+-- one flag more
+pub TellGates-more : (flags : List Bool) (flag : Bool) (gates : List LiveListData) → TellGates flags gates →
+    (flag ≡ false → length (places_of gates (length flags)) ≡ 0) → TellGates (flags ++ flag ∷ []) gates
+TellGates-more flags flag gates tell of_last node inside unmarked =
+    elim (cases_lt node (length flags)) [
+      | inl less ↦ tell node less (λ marked. unmarked (get_or_append_left flags (flag ∷ []) false node less ∙ marked))
+      | inr most ↦
+          let last : length flags ≡ node = omega (arith, most, inside, length-append flags (flag ∷ [])) in
+          subst (λ n. length (places_of gates n) ≡ 0) last (of_last (unset flag (λ set. unmarked (get_or_at flags flag [] false node last ∙ set))))
+    ]
+  where
+    unset : (b : Bool) → (¬ (b ≡ true)) → b ≡ false
+    unset true out = absurd (out refl)
+    unset false out = refl

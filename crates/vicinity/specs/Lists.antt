@@ -1,5 +1,6 @@
 -- The places of switches, listed at the nodes of a graph: those in front, and those behind.
-use Rattle.std.specs.Prelude.{ℕ, List, [], slice_index_or}
+use Rattle.std.specs.Prelude.{◌≡◌, ℕ, ◌<◌, Bool, List, [], length, slice_index_or}
+use Rattle.machine_parts.specs.Marking.{IsMarked}
 
 -- the places in front of a list, and all of it
 pub record LiveListData : Type 0 where
@@ -22,3 +23,7 @@ places_of lists node = (list_at lists node).items
 -- all places at a node
 abbrev pub all_at : List LiveListData → ℕ → List ℕ
 all_at lists node = (list_at lists node).all
+
+-- a node whose flag is there and isn't set is the gate of no switch
+abbrev pub TellGates : List Bool → List LiveListData → Type 0
+TellGates flags gates = (node : ℕ) → node < length flags → (¬ IsMarked flags node) → length (places_of gates node) ≡ 0

@@ -1,7 +1,7 @@
 -- The words of vicinities that clauses cite, from one place.
 pub use Rattle.vicinity.specs.Touching.{IsAwake}
 pub use Rattle.vicinity.specs.NodeSets.{IsIn}
-pub use Rattle.vicinity.specs.Lists.{places_of, all_at}
+pub use Rattle.vicinity.specs.Lists.{places_of, all_at, TellGates}
 pub use Rattle.vicinity.specs.Arms.{IsArm, LeadsTo, ListsLive}
 pub use Rattle.vicinity.specs.LiveLists.{AreListsOf, TurnsIn, TurnsAtNode, TurnsGate, AddsIn, AddsAt, AddsEnds, AreListedBelow}
 pub use Rattle.vicinity.specs.Flooding.{Wakes}

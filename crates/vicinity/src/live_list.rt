@@ -1,5 +1,5 @@
 //! The places at a node, with those in front whose switches aren't open.
-ghost use Rattle.std.specs.Prelude.{◌≡◌, ◌<◌, ◌++◌, [], length, replicate, Contains, IfOk, OnOk};
+ghost use Rattle.std.specs.Prelude.{◌≡◌, ℕ, ◌<◌, ◌++◌, [], length, replicate, Contains, IfOk, OnOk};
 ghost use Rattle.machine_parts.specs.Marking.{AreOnce};
 ghost use Rattle.vicinity.specs.Words.{all_at, no_places, TurnsIn, AddsIn, AddsAt};
 
@@ -90,7 +90,8 @@ pub(crate) fn empty_lists(alloc: Global, count: usize) -> Result<Vec<LiveList>, 
 
 /// So many lists more, without places.
 pub(crate) fn add_empty(lists: &mut Vec<LiveList>, more: usize) -> Result<(), AllocError>
-    ensures { OnOk result (lists.new.items ≡ lists.old.items ++ replicate more no_places) }
+    ensures ok { OnOk result (lists.new.items ≡ lists.old.items ++ replicate more no_places) }
+    ensures some { (count : ℕ) × (lists.new.items ≡ lists.old.items ++ replicate count no_places) }
 {
     let alloc = *lists.allocator();
     for _node in 0..more {

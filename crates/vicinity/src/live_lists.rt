@@ -1,8 +1,9 @@
 //! The places at all nodes of a graph, with those in front whose switches aren't open.
 ghost use Rattle.std.specs.Prelude.{◌≡◌, ℕ, ◌+◌, ◌<◌, length, slice_set, Contains, Some, IfOk, OnOk};
+ghost use Rattle.std.specs.Bool.{OnFalse};
 ghost use Rattle.switch_paths.specs.Graphs.{nodes};
 ghost use Rattle.machine_parts.specs.Marking.{AreOnce};
-ghost use Rattle.vicinity.specs.Words.{places_of, all_at, with_lists, AreListsOf, AreListedBelow, AddsEnds, TurnsAtNode, TurnsGate};
+ghost use Rattle.vicinity.specs.Words.{places_of, all_at, with_lists, TellGates, AreListsOf, AreListedBelow, AddsEnds, TurnsAtNode, TurnsGate};
 
 use crate::arms::listed;
 use crate::live_list::{LiveList, add_at, add_empty, empty_lists};
@@ -17,21 +18,25 @@ use ternary::Tern;
 ///
 /// Those whose switches aren't open stand in front. When a gate changes, each of its switches is swapped with one at
 /// the border, in the lists of both its ends. Where a place stands is remembered, so that this takes no search; and
-/// it takes no memory.
+/// it takes no memory. Most nodes are gates of no switch of a large group, and it is known of each by a flag, so that
+/// a change of one takes no look at its list.
 #[derive(Drop)]
 pub struct LiveLists {
     ends: Vec<LiveList>,
     gates: Vec<LiveList>,
+    is_gate: Vec<bool>,
     spots: Vec<Spots>,
 }
 
 impl Model for LiveLists {
     ghost use Rattle.machine_parts.specs.Marking.{AreOnce};
-    ghost use Rattle.vicinity.specs.Lists.{LiveListsData};
+    ghost use Rattle.vicinity.specs.Lists.{LiveListsData, TellGates};
 
     ghost Value = { LiveListsData };
 
     ghost view = { λ lists. record { ends = lists.ends.items; gates = lists.gates.items } };
+
+    ghost invariant = { λ lists. TellGates lists.is_gate.items lists.gates.items };
 }
 
 impl LiveLists {
@@ -45,7 +50,13 @@ impl LiveLists {
         let mut spots = vec![in alloc; HEADS; graph.places()]?;
         list_all(graph, state, &mut ends, &mut gates)?;
         note_all(graph, &mut spots, &ends);
-        Ok(LiveLists { ends, gates, spots })
+        let is_gate = gate_flags(alloc, &gates)?;
+        Ok(LiveLists {
+            ends,
+            gates,
+            is_gate,
+            spots,
+        })
     }
 
     /// So many nodes more have no places.
@@ -78,6 +89,16 @@ impl LiveLists {
         listed(&self.gates, node)
     }
 
+    /// Whether the node may be the gate of a switch: of a node that came later it isn't known.
+    pub fn may_gate(&self, node: usize) -> bool
+        ensures { OnFalse result (length (places_of self.now.gates node) ≡ 0) }
+    {
+        if node < self.is_gate.len() {
+            return self.is_gate[node];
+        }
+        true
+    }
+
     /// The switches at a gate turn: it had its state in this one, and is to have another.
     pub fn turn(&mut self, graph: &Graph, state: &[Tern], gate: usize, now: Tern)
         requires counted { length state.now ≡ nodes graph.now }
@@ -95,6 +116,27 @@ impl LiveLists {
             now,
         );
     }
+}
+
+// For each node whether it is the gate of a switch.
+fn gate_flags(alloc: Global, gates: &[LiveList]) -> Result<Vec<bool>, AllocError>
+    ensures { IfOk result (λ flags. TellGates flags.items gates.now) }
+{
+    let mut flags = Vec::new(alloc);
+    for node in 0..gates.len() {
+        flags.push(has_some(gates, node))?;
+    }
+    Ok(flags)
+}
+
+// Whether a place is in front at a node.
+fn has_some(lists: &[LiveList], node: usize) -> bool
+    ensures { OnFalse result (length (places_of lists.now node) ≡ 0) }
+{
+    if listed(lists, node).is_empty() {
+        return false;
+    }
+    true
 }
 
 // Lists all places of a graph, none of which is listed yet.

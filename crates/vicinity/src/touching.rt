@@ -52,7 +52,7 @@ pub fn take_state(
     ensures state { state.new ≡ slice_set state.old node value }
     ensures touches { Touches graph.now state.old state.new touched.old.inside touched.new.inside }
 {
-    if lists.gated(node).is_empty() {
+    if !lists.may_gate(node) {
         state[node] = value;
         return;
     }

@@ -10,6 +10,7 @@ use Rattle.vicinity.specs.Growing.{GrowsWide}
 use Rattle.vicinity.proofs.GrowingLemmas.{count_grown, storage_before}
 use Rattle.wide_groups.specs.Moving.{HasStaleOnly, graph_in}
 use Rattle.wide_groups.specs.Awake.{HoldsWide}
+use Rattle.wide_groups.proofs.WideCases.{both_before}
 use Rattle.wide_groups.specs.Staying.{GrowsIn, HoldsNode, HoldsAny, ForgetsWith, lowered}
 
 -- if no such groups are known, no node is a member of one
@@ -20,12 +21,7 @@ none_holds_node (Some wide) is node storage = absurd (cc)
 -- what is known with new nodes was known before
 pub grown_wide : (count : ℕ) (a c : Option WideData) → GrowsIn count a c → (later : WideData) → c ≡ Some later →
     (wide : WideData) × (a ≡ Some wide) × GrowsWide count wide later
-grown_wide count None None grows later is = absurd (cc)
-grown_wide count None (Some c) grows later is = absurd grows
-grown_wide count (Some a) None grows later is = absurd grows
-grown_wide count (Some a) (Some c) grows later is =
-    let same : c ≡ later = cc is in
-    (a, refl, subst (λ (one : WideData). GrowsWide count a one) same grows)
+grown_wide count a c = both_before (GrowsWide count) a c
 
 -- and the other way round
 pub wide_grown : (count : ℕ) (a c : Option WideData) → GrowsIn count a c → (wide : WideData) → a ≡ Some wide →

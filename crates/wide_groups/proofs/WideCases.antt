@@ -15,7 +15,7 @@ use Rattle.vicinity.proofs.TouchLemmas.{NoneTwice, Touches-then, Touches-none}
 use Rattle.machine_parts.specs.declared.part.MachinePart.{MachinePart}
 use Rattle.machine_parts.specs.Parts.{HasMember, IsStale}
 use Rattle.machine_parts.specs.Stepping.{Moves}
-use Rattle.wide_groups.specs.Moving.{graph_in, touched_in, HasStaleOnly, IsAwakeIn, MovesIn, RetouchesIn, PlacesIn}
+use Rattle.wide_groups.specs.Moving.{graph_in, touched_in, HasStaleOnly, IsAwakeIn, MovesIn, BothIn, RetouchesIn, PlacesIn}
 use Rattle.wide_groups.specs.Awake.{HoldsWide, IsListedIn, CalmsIn, TurnedIn, ListsIn}
 
 -- what is awake is a storage node of the graph
@@ -120,25 +120,26 @@ RetouchesIn-from joining None (Some b) c old new before calms turned lists = abs
 RetouchesIn-from joining (Some a) None c old new before calms turned lists = absurd calms
 RetouchesIn-from joining (Some a) (Some b) None old new before calms turned lists = absurd turned
 
--- after a step such groups are known if they were before
+-- of two states of such groups the first is known if the later one is
+pub both_before : (IsAfter : WideData → WideData → Type 0) (a c : Option WideData) → BothIn IsAfter a c → (w : WideData) → c ≡ Some w →
+    (v : WideData) × (a ≡ Some v) × IsAfter v w
+both_before IsAfter None None both w is = absurd (cc)
+both_before IsAfter None (Some c) both w is = absurd both
+both_before IsAfter (Some a) None both w is = absurd both
+both_before IsAfter (Some a) (Some c) both w is = let same : c ≡ w = cc is in (a, refl, subst (IsAfter a) same both)
+
+none_before : (IsAfter : WideData → WideData → Type 0) (a c : Option WideData) → BothIn IsAfter a c → c ≡ None → a ≡ None
+none_before IsAfter None c both is = refl
+none_before IsAfter (Some a) None both is = absurd both
+none_before IsAfter (Some a) (Some c) both is = absurd (cc)
+
+-- so it is after a step
 pub retouched : (joining : Bool) (a c : Option WideData) (old new : List Tern) → RetouchesIn joining a c old new → (w : WideData) → c ≡ Some w →
     (v : WideData) × (a ≡ Some v) × Retouches joining v w old new
-retouched joining None None old new retouches w is = absurd (cc)
-retouched joining None (Some c) old new retouches w is = absurd retouches
-retouched joining (Some a) None old new retouches w is = absurd retouches
-retouched joining (Some a) (Some c) old new retouches w is =
-    let same : c ≡ w = cc is in
-    (a, refl, subst (λ (one : WideData). Retouches joining a one old new) same retouches)
+retouched joining a c old new = both_before (λ one other. Retouches joining one other old new) a c
 
 pub none_retouched : (joining : Bool) (a c : Option WideData) (old new : List Tern) → RetouchesIn joining a c old new → c ≡ None → a ≡ None
-none_retouched joining None c old new retouches is = refl
-none_retouched joining (Some a) None old new retouches is = absurd retouches
-none_retouched joining (Some a) (Some c) old new retouches is = absurd (cc)
-
-pub retouched_none : (joining : Bool) (a c : Option WideData) (old new : List Tern) → RetouchesIn joining a c old new → a ≡ None → c ≡ None
-retouched_none joining None None old new retouches is = refl
-retouched_none joining None (Some c) old new retouches is = absurd retouches
-retouched_none joining (Some a) c old new retouches is = absurd (cc)
+none_retouched joining a c old new = none_before (λ one other. Retouches joining one other old new) a c
 
 pub known_still : (joining : Bool) (a c : Option WideData) (old new : List Tern) → RetouchesIn joining a c old new → is_some c ≡ is_some a
 known_still joining None None old new retouches = refl
@@ -158,25 +159,13 @@ retouched_only (Some a) (Some c) old new retouches node there =
       | inr (_, changes) ↦ subst (λ g. SwitchChanges g old new node) (sym retouches.stays.graph) changes
     ]
 
--- such groups are known after a node was placed if they were before
+-- and after a node was placed
+pub none_placed : (placed : ℕ) (a c : Option WideData) (old new : List Tern) → PlacesIn placed a c old new → c ≡ None → a ≡ None
+none_placed placed a c old new = none_before (λ one other. PlacesWide placed one other old new) a c
+
 pub placed_wide : (placed : ℕ) (a c : Option WideData) (old new : List Tern) → PlacesIn placed a c old new → (w : WideData) → c ≡ Some w →
     (v : WideData) × (a ≡ Some v) × PlacesWide placed v w old new
-placed_wide placed None None old new places w is = absurd (cc)
-placed_wide placed None (Some c) old new places w is = absurd places
-placed_wide placed (Some a) None old new places w is = absurd places
-placed_wide placed (Some a) (Some c) old new places w is =
-    let same : c ≡ w = cc is in
-    (a, refl, subst (λ (one : WideData). PlacesWide placed a one old new) same places)
-
-pub none_placed : (placed : ℕ) (a c : Option WideData) (old new : List Tern) → PlacesIn placed a c old new → c ≡ None → a ≡ None
-none_placed placed None c old new places is = refl
-none_placed placed (Some a) None old new places is = absurd places
-none_placed placed (Some a) (Some c) old new places is = absurd (cc)
-
-pub placed_none : (placed : ℕ) (a c : Option WideData) (old new : List Tern) → PlacesIn placed a c old new → a ≡ None → c ≡ None
-placed_none placed None None old new places is = refl
-placed_none placed None (Some c) old new places is = absurd places
-placed_none placed (Some a) c old new places is = absurd (cc)
+placed_wide placed a c old new = both_before (λ one other. PlacesWide placed one other old new) a c
 
 -- if they are known as before, they aren't if they weren't
 pub still_none : (a c : Option WideData) → is_some c ≡ is_some a → a ≡ None → c ≡ None

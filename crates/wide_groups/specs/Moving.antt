@@ -38,16 +38,17 @@ pub record MovesIn (joining : Bool) (parts : List MachinePart) (marks : List Boo
       state_at new node ≡ after joining (state_at old node) value
   pub stays : (node : ℕ) → ((value : Tern) → ¬ IsGiven parts marks old node value) → (¬ IsAwakeIn wide old node) → state_at new node ≡ state_at old node
 
+-- two states of the groups that are stepped by vicinities, the later one so after the other, or neither is known
+abbrev pub BothIn : (WideData → WideData → Type 0) → Option WideData → Option WideData → Type 0
+BothIn IsAfter None None = Unit {0}
+BothIn IsAfter (Some wide) (Some later) = IsAfter wide later
+BothIn IsAfter None (Some later) = ⊥
+BothIn IsAfter (Some wide) None = ⊥
+
 -- the groups that are stepped by vicinities are touched by what a step stirred, if they are known
 abbrev pub RetouchesIn : Bool → Option WideData → Option WideData → List Tern → List Tern → Type 0
-RetouchesIn joining None None old new = Unit {0}
-RetouchesIn joining (Some wide) (Some later) old new = Retouches joining wide later old new
-RetouchesIn joining None (Some later) old new = ⊥
-RetouchesIn joining (Some wide) None old new = ⊥
+RetouchesIn joining wide later old new = BothIn (λ one other. Retouches joining one other old new) wide later
 
 -- and by what a placed node stirred
 abbrev pub PlacesIn : ℕ → Option WideData → Option WideData → List Tern → List Tern → Type 0
-PlacesIn placed None None old new = Unit {0}
-PlacesIn placed (Some wide) (Some later) old new = PlacesWide placed wide later old new
-PlacesIn placed None (Some later) old new = ⊥
-PlacesIn placed (Some wide) None old new = ⊥
+PlacesIn placed wide later old new = BothIn (λ one other. PlacesWide placed one other old new) wide later

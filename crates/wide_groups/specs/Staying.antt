@@ -4,14 +4,11 @@ use Rattle.std.specs.Prelude.{◌≡◌, ℕ, ◌≤◌, ◌⊎◌, min, List, C
 use Rattle.switch_paths.specs.Graphs.{IsStorage}
 use Rattle.vicinity.specs.Wides.{WideData}
 use Rattle.vicinity.specs.Growing.{GrowsWide}
-use Rattle.wide_groups.specs.Moving.{graph_in}
+use Rattle.wide_groups.specs.Moving.{graph_in, BothIn}
 
 -- they are known in a graph with so many nodes, if they were known
 abbrev pub GrowsIn : ℕ → Option WideData → Option WideData → Type 0
-GrowsIn count None None = Unit {0}
-GrowsIn count (Some wide) (Some later) = GrowsWide count wide later
-GrowsIn count None (Some later) = ⊥
-GrowsIn count (Some wide) None = ⊥
+GrowsIn count wide later = BothIn (GrowsWide count) wide later
 
 -- the node is a member of one of them
 abbrev pub HoldsNode : Option WideData → ℕ → Type 0

@@ -20,7 +20,14 @@ loop-node-preserved c =
           ∙ (append_assoc before (replicate i no_places) (no_places ∷ []) ∙ ap (λ more. before ++ more) (replicate_more i no_places)));
     }
 
-pub returns : goal.returns
-returns c =
+pub returns-clause-ok : goal.returns-clause-ok
+returns-clause-ok c =
     let all : c.loop-node._node ≡ c.args.more = omega (arith, c.loop-node-test.false, c.loop-node.invariant.within) in
     c.loop-node.invariant.lists ∙ ap (λ n. c.args.lists.now.items ++ replicate n no_places) all
+
+pub returns-clause-some : goal.returns-clause-some
+returns-clause-some c = (c.loop-node._node, c.loop-node.invariant.lists)
+
+-- no memory for one list more
+pub returns-in_err-push-clause-some : goal.returns-in_err-push-clause-some
+returns-in_err-push-clause-some c = (c.loop-node._node, (search rules) ∙ c.loop-node.invariant.lists)
