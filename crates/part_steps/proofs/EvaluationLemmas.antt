@@ -185,6 +185,15 @@ NoteTheirChanges-from_AreSeatsOf joining parts state room codes nodes seats are 
       seated_noted joining parts state room codes nodes k found.part seat found.stands found.place seat_of change,
     )
 
+-- what is marked or done is so still once a marked part is done
+pub popped_more : (marks : List Bool) (done : List ℕ) (k l : ℕ) → IsMarked marks l ⊎ Contains done l → IsMarked (slice_set marks k false) l ⊎ Contains (done ++ k ∷ []) l
+popped_more marks done k l (inl still) =
+    elim (marked-cleared_cases marks k l still) [
+      | inl left ↦ inl left
+      | inr same ↦ inr (subst (Contains (done ++ k ∷ [])) (sym same) (Contains-push done k))
+    ]
+popped_more marks done k l (inr earlier) = inr (Contains-append_left done (k ∷ []) l earlier)
+
 module _ (joining : Bool) (parts : List MachinePart) (state : List Tern) (waiting before : List Bool) (seats : List (Option Seat)) where
   -- nothing was evaluated yet
   pub EvaluatedBut-none : (slots : List Slot) → IsEmptyFrom 0 slots →
@@ -266,15 +275,7 @@ module _ (joining : Bool) (parts : List MachinePart) (state : List Tern) (waitin
             | inl earlier ↦ evaluated.ready l earlier
             | inr same ↦ λ waits. ready (subst (IsMarked waiting) (sym same) waits)
           ];
-      popped = λ l was.
-          elim (evaluated.popped l was) [
-            | inl still ↦
-                elim (marked-cleared_cases marks k l still) [
-                  | inl left ↦ inl left
-                  | inr same ↦ inr (subst (Contains (done ++ k ∷ [])) (sym same) (Contains-push done k))
-                ]
-            | inr earlier ↦ inr (Contains-append_left done (k ∷ []) l earlier)
-          ];
+      popped = λ l was. popped_more marks done k l (evaluated.popped l was);
       noted = λ l change there is.
           elim (Contains-push_cases done k l there) [
             | inl earlier ↦

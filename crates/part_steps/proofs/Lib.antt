@@ -3,7 +3,6 @@ pub mod BundleLemmas
 pub mod CodesLemmas
 pub mod EvaluationLemmas
 pub mod TakingLemmas
-pub mod AdvanceLemmas
 pub mod ReadersLemmas
 pub mod DenseLemmas
 pub mod SameCodes

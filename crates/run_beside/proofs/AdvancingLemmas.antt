@@ -1,6 +1,6 @@
 -- A step of the run under a fault. What is evaluated is of parts that are apart, and doesn't follow; so the good run's changes that are taken over and
 -- those of the run under a fault itself are of different nodes, and each is as if it were alone.
-use Rattle.std.proofs.Common.{◌≡◌, ◌≢◌, ℕ, zero, suc, ◌+◌, ◌<◌, ◌≤◌, Bool, true, false, inl, inr, List, length, take, get_or, refl, sym, ap, subst, ◌∙◌, arith}
+use Rattle.std.proofs.Common.{◌≡◌, ◌≢◌, ℕ, zero, suc, ◌+◌, ◌<◌, ◌≤◌, Bool, true, inl, inr, List, length, take, get_or, refl, sym, ap, subst, ◌∙◌, arith}
 use Rattle.std.specs.Prelude.{Contains, Option, slice_set}
 use Rattle.std.proofs.Math.Seq.{take-length}
 use Rattle.std.proofs.lemmas.List.Elements.{Contains-get_or}
@@ -11,7 +11,7 @@ use Rattle.switch_paths.specs.Switching.{state_at}
 use Rattle.part_words.specs.declared.change.Change.{Change}
 use Rattle.machine_parts.specs.declared.part.MachinePart.{MachinePart}
 use Rattle.machine_parts.specs.Marking.{IsMarked, MarksAll}
-use Rattle.machine_parts.specs.Stepping.{IsGiven, ReadsChange, StaysMarked}
+use Rattle.machine_parts.specs.Stepping.{IsGiven, ReadsChange}
 use Rattle.machine_parts.specs.Evaluating.{Rooms, Evaluated}
 use Rattle.machine_parts.specs.Readers.{readers_of}
 use Rattle.machine_parts.specs.Running.{AreAgreed, AreOwners, IsRunnable, IsTaken}
@@ -22,7 +22,7 @@ use Rattle.wide_groups.specs.Awake.{HoldsWide}
 use Rattle.wide_groups.specs.Moving.{IsAwakeIn}
 use Rattle.wide_groups.proofs.WideCases.{awake_stale, stale_only_in}
 use Rattle.part_steps.proofs.TakingLemmas.{change_of}
-use Rattle.part_steps.proofs.AdvanceLemmas.{AreChanges, Moves-taken, changes_agree, changes_inside}
+use Rattle.part_advance.proofs.AdvanceLemmas.{AreChanges, Moves-taken, changes_agree, changes_inside, still_marked}
 use Rattle.run_beside.specs.Following.{IsWritten, FollowsAt}
 use Rattle.run_beside.specs.Noticing.{NoticesBoth, ReadsSomeAgreeing}
 use Rattle.run_beside.specs.Stepping.{MovesBeside, RemarksBeside}
@@ -147,7 +147,7 @@ module _ (joining : Bool) (parts : List MachinePart) (marks waiting : List Bool)
         count = notices.count ∙ (again.count ∙ counted);
         count_apart = notices.apart.count;
         still_apart = notices.apart.stays;
-        stays = λ k stays. notices.stays k (stays_by joining coded evaluated again refl k stays);
+        stays = λ k stays. notices.stays k (still_marked joining parts old waiting marks first second coded done runs.stale evaluated again k stays);
         entered = notices.entered;
         reads = λ k change is.
             notices.wakes k (elim (change_of own change.node) [
@@ -190,17 +190,4 @@ module _ (joining : Bool) (parts : List MachinePart) (marks waiting : List Bool)
               elim (again.only k before) [
                 | inl still ↦ evaluated.fewer k still
                 | inr (is, there) ↦ evaluated.marked k there
-              ]
-
-          stays_by : (kind : Bool) (coded : List Change) → Evaluated joining parts old waiting marks first coded done →
-              MarksAll (λ k. (joining ≡ true) × Contains done k) first second → kind ≡ joining → (k : ℕ) → StaysMarked kind parts marks k → IsMarked second k
-          stays_by true coded evaluated again is k was =
-              elim (evaluated.popped k was) [
-                | inl still ↦ again.stays k still
-                | inr there ↦ again.set k (sym is, there)
-              ]
-          stays_by false coded evaluated again is k (was, stale) =
-              elim (evaluated.popped k was) [
-                | inl still ↦ again.stays k still
-                | inr there ↦ absurd (evaluated.ready k there (runs.stale k stale))
               ]

@@ -1,5 +1,5 @@
 -- Groups on which two runs agree. Their local graphs are one, and so are their local states; so they have the same responses, and move alike.
-use Rattle.std.proofs.Common.{◌≡◌, ℕ, suc, ◌<◌, inl, inr, Bool, true, false, List, [], ◌∷◌, length, map, refl, sym, ap, ap₂, subst, ◌∙◌, arith}
+use Rattle.std.proofs.Common.{◌≡◌, ℕ, ◌<◌, inl, inr, Bool, true, false, List, length, sym, ap, ap₂, subst, ◌∙◌, arith}
 use Rattle.std.specs.Prelude.{Contains, slice_index}
 use Rattle.std.proofs.lemmas.Bool.{cases_lt}
 use Rattle.std.proofs.lemmas.List.{get_or_default}
@@ -18,25 +18,10 @@ use Rattle.group_text.proofs.LocalNodes.{member_at}
 use Rattle.group_text.proofs.Locality.{responses}
 use Rattle.group_rest.specs.Rest.{Reads}
 use Rattle.group_rest.specs.Alike.{IsAlike}
-use Rattle.group_rest.proofs.AlikeGroups.{nodes_alike, text_alike, alike_groups_read_alike}
+use Rattle.group_rest.proofs.AlikeGroups.{map_same, IsAlike-sym, nodes_alike, text_alike, alike_groups_read_alike}
 use Rattle.group_rest.proofs.ReadNodes.{outside_read}
 use Rattle.machine_parts.proofs.CaseLemmas.{same_or_not}
 use Rattle.run_beside.specs.Agreeing.{Agrees, IsMove, AllThatDiffer, AgreeingGroupsRespondAlike, AgreeingGroupsMoveAlike, UnlistedGroupsMoveAlike, InputNodesMoveAlike}
-
--- lists made of the same items alike are the same
-map_same : {X : Type 0} (f h : ℕ → X) (xs : List ℕ) → ((x : ℕ) → Contains xs x → h x ≡ f x) → map h xs ≡ map f xs
-map_same f h [] same = refl
-map_same f h (x ∷ xs) same =
-    ap₂ (λ first rest. first ∷ rest) (same x (0, omega arith, refl))
-    (map_same f h xs (λ y (k, inside, is). same y (suc k, omega (arith, inside), is)))
-
-alike_back : (g h : GraphData) (group : Group) → IsAlike g h group → IsAlike h g group
-alike_back g h group alike = record {
-  here = alike.there;
-  there = alike.here;
-  places = λ place inside. sym (alike.places place inside);
-  levels = λ node member. sym (alike.levels node member);
-}
 
 module _ (g h : GraphData) (wired : IsWired g) (wired_too : IsWired h) (group : Group) (alike : IsAlike g h group) (good bad : List Tern) (agrees : Agrees g group good bad) where
   -- the local nodes have the same states
@@ -81,7 +66,7 @@ agrees_back g h wired wired_too group alike good bad agrees = record {
 pub respond_alike : AgreeingGroupsRespondAlike
 respond_alike g h group good bad wired wired_too alike agrees node member answer = (
   member_response g h wired wired_too group alike good bad agrees node member answer,
-  member_response h g wired_too wired group (alike_back g h group alike) bad good (agrees_back g h wired wired_too group alike good bad agrees)
+  member_response h g wired_too wired group (IsAlike-sym g h group alike) bad good (agrees_back g h wired wired_too group alike good bad agrees)
       node member answer,
 )
 

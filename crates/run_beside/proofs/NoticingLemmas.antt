@@ -7,7 +7,7 @@ use Rattle.smallvec.specs.SmallVec.{SmallVec}
 use Rattle.ternary.specs.declared.tern.Tern.{Tern}
 use Rattle.switch_paths.specs.Switching.{state_at}
 use Rattle.part_words.specs.declared.change.Change.{Change}
-use Rattle.machine_parts.specs.Marking.{IsMarked}
+use Rattle.machine_parts.specs.Marking.{IsMarked, MarksAll}
 use Rattle.machine_parts.specs.Readers.{readers_of}
 use Rattle.machine_parts.proofs.SetMarks.{marked-set, marked-stays, marked-set_cases}
 use Rattle.run_beside.specs.Noticing.{IsConcerned, ConcernsDiffering, Notices, NoticesBoth, NoticesChanges, NoticesGood, ReadsAgreeing}
@@ -62,21 +62,25 @@ Notices-as Enters Wakes EntersToo WakesToo a b m n to from fewer notices = recor
   only = notices.only;
 }
 
--- none
-pub Notices-none : (Enters Wakes : ℕ → Type 0) (apart marks : List Bool) → ((k : ℕ) → ¬ Enters k) → ((k : ℕ) → ¬ Wakes k) → Notices Enters Wakes apart apart marks marks
-Notices-none Enters Wakes apart marks none_enters none_wakes = record {
-  apart = record {
-    count = refl;
-    stays = λ k was. was;
-    set = λ k this. absurd (none_enters k this);
-    only = λ k is. inl is;
-  };
+-- none enters
+none_apart : (Enters : ℕ → Type 0) (apart : List Bool) → ((k : ℕ) → ¬ Enters k) → MarksAll Enters apart apart
+none_apart Enters apart none = record { count = refl; stays = λ k was. was; set = λ k this. absurd (none k this); only = λ k is. inl is }
+
+-- none is apart that wakes
+pub Notices-asleep : (Enters Wakes : ℕ → Type 0) (apart marks : List Bool) → ((j : ℕ) → ¬ Enters j) → ((j : ℕ) → Wakes j → ¬ IsMarked apart j) →
+    Notices Enters Wakes apart apart marks marks
+Notices-asleep Enters Wakes apart marks none_enters none_awake = record {
+  apart = none_apart Enters apart none_enters;
   count = refl;
-  stays = λ k was. was;
-  entered = λ k is. inl is;
-  wakes = λ k this. absurd (none_wakes k this);
-  only = λ k marked. inl marked;
+  stays = λ j was. was;
+  entered = λ j is. inl is;
+  wakes = λ j this is. absurd (none_awake j this is);
+  only = λ j marked. inl marked;
 }
+
+-- none enters or wakes
+pub Notices-none : (Enters Wakes : ℕ → Type 0) (apart marks : List Bool) → ((k : ℕ) → ¬ Enters k) → ((k : ℕ) → ¬ Wakes k) → Notices Enters Wakes apart apart marks marks
+Notices-none Enters Wakes apart marks none_enters none_wakes = Notices-asleep Enters Wakes apart marks none_enters (λ k this is. none_wakes k this)
 
 -- a part is put apart and marked
 pub Notices-one : (Enters Wakes : ℕ → Type 0) (apart marks : List Bool) (k : ℕ) → k < length apart → k < length marks → ((j : ℕ) → Enters j → j ≡ k) →
@@ -105,12 +109,7 @@ Notices-one Enters Wakes apart marks k inside within enters_one enters wakes_one
 pub Notices-woken : (Enters Wakes : ℕ → Type 0) (apart marks : List Bool) (k : ℕ) → k < length marks → IsMarked apart k → ((j : ℕ) → ¬ Enters j) →
     ((j : ℕ) → Wakes j → j ≡ k) → Notices Enters Wakes apart apart marks (slice_set marks k true)
 Notices-woken Enters Wakes apart marks k within is_apart none_enters wakes_one = record {
-  apart = record {
-    count = refl;
-    stays = λ j was. was;
-    set = λ j this. absurd (none_enters j this);
-    only = λ j is. inl is;
-  };
+  apart = none_apart Enters apart none_enters;
   count = length-set marks k true;
   stays = λ j was. marked-stays marks k j was;
   entered = λ j is. inl is;
@@ -119,23 +118,6 @@ Notices-woken Enters Wakes apart marks k within is_apart none_enters wakes_one =
     | inl was ↦ inl was
     | inr same ↦ inr (subst (IsMarked apart) (sym same) is_apart)
   ];
-}
-
--- none is apart that wakes
-pub Notices-asleep : (Enters Wakes : ℕ → Type 0) (apart marks : List Bool) → ((j : ℕ) → ¬ Enters j) → ((j : ℕ) → Wakes j → ¬ IsMarked apart j) →
-    Notices Enters Wakes apart apart marks marks
-Notices-asleep Enters Wakes apart marks none_enters none_apart = record {
-  apart = record {
-    count = refl;
-    stays = λ j was. was;
-    set = λ j this. absurd (none_enters j this);
-    only = λ j is. inl is;
-  };
-  count = refl;
-  stays = λ j was. was;
-  entered = λ j is. inl is;
-  wakes = λ j this is. absurd (none_apart j this is);
-  only = λ j marked. inl marked;
 }
 
 -- one part more of a list that enters

@@ -2,18 +2,13 @@
 use Rattle.std.proofs.Common.{◌<◌, inl, inr, get_or, refl, sym, ap, subst, arith}
 use Rattle.std.specs.Prelude.{length}
 use Rattle.std.proofs.lemmas.List.{get_or_default}
-use Rattle.std.proofs.lemmas.List.Elements.{Contains-get_or}
-use Rattle.ternary.specs.declared.tern.Tern.TheVariants.{Zero}
 use Rattle.switch_paths.specs.Switching.{state_at}
-use Rattle.part_words.specs.declared.change.Change.{Change}
 use Rattle.vicinity.proofs.TouchLemmas.{IsTaken-more, NoneTwice}
 use Rattle.wide_groups.proofs.WideCases.{TurnedIn-none, TurnedIn-then, listed_turned}
+use Rattle.part_advance.proofs.NextChange.{default_change, next_inside}
 use Rattle.run_beside.specs.Following.{IsWritten, FollowsAt}
 use Rattle.run_beside.proofs.WritingLemmas.{written, passed, none_twice-written}
 use Rattle.run_beside.proofs.following.follow.Goals as goal
-
-first : Change
-first = record { node = 0; value = Zero }
 
 pub loop-change-init : goal.loop-change-init
 loop-change-init c = record {
@@ -23,16 +18,11 @@ loop-change-init c = record {
 }
 
 pub bounds-good-change : goal.bounds-good-change
-unfolding first
-bounds-good-change c =
-    let inside = c.requires.inside _ (Contains-get_or c.args.changes.now c.loop-change.change-index first c.loop-change-test.true) in
-    omega (arith, inside, c.loop-change.invariant.good.count)
+bounds-good-change c = omega (arith, next_inside _ _ _ c.loop-change-test.true c.requires.inside, c.loop-change.invariant.good.count)
 
 pub follow_one-requires-clause-inside : goal.follow_one-requires-clause-inside
-unfolding first
 follow_one-requires-clause-inside c =
-    let inside = c.requires.inside _ (Contains-get_or c.args.changes.now c.loop-change.change-index first c.loop-change-test.true) in
-    omega (arith, inside, c.loop-change.invariant.bad.count, c.requires.counted)
+    omega (arith, next_inside _ _ _ c.loop-change-test.true c.requires.inside, c.loop-change.invariant.bad.count, c.requires.counted)
 
 pub follow_one-requires-clause-wide : goal.follow_one-requires-clause-wide
 follow_one-requires-clause-wide c =
@@ -40,19 +30,16 @@ follow_one-requires-clause-wide c =
     c.loop-change.invariant.bad.count c.requires.wide
 
 pub follow_one-requires-clause-far : goal.follow_one-requires-clause-far
-unfolding first
-follow_one-requires-clause-far c = λ far.
-    c.requires.far _ far (c.requires.inside _ (Contains-get_or c.args.changes.now c.loop-change.change-index first c.loop-change-test.true))
+follow_one-requires-clause-far c = λ far. c.requires.far _ far (next_inside _ _ _ c.loop-change-test.true c.requires.inside)
 
 pub loop-change-preserved : goal.loop-change-preserved
-unfolding first
 loop-change-preserved c =
     let changes = c.args.changes.now in
     let i = c.loop-change.change-index in
     let test = c.loop-change-test.true in
-    let change = get_or changes i first in
-    let is = get_or_default changes i first change test in
-    let inside = c.requires.inside change (Contains-get_or changes i first test) in
+    let change = get_or changes i default_change in
+    let is = get_or_default changes i default_change change test in
+    let inside = next_inside changes i _ test c.requires.inside in
     let in_bad : change.node < length c.loop-change.bad = omega (arith, inside, c.loop-change.invariant.bad.count, c.requires.counted) in
     let Follows = FollowsAt c.args.owners.now c.args.apart.now.inside in
     let once : NoneTwice c.args.bad.now c.loop-change.bad c.follow_one.new.bad = elim c.follow_one.ensures.bad [
@@ -62,7 +49,7 @@ loop-change-preserved c =
       | inr (stays, same) ↦ λ node. inr (ap (λ states. state_at states node) same)
     ] in
     record {
-      good = IsTaken-more changes i first c.args.good.now c.loop-change.good test inside c.requires.agreed c.loop-change.invariant.good;
+      good = IsTaken-more changes i default_change c.args.good.now c.loop-change.good test inside c.requires.agreed c.loop-change.invariant.good;
       bad = elim c.follow_one.ensures.bad [
         | inl (follows, set) ↦
             subst (IsWritten Follows _ c.args.bad.now) (sym set)

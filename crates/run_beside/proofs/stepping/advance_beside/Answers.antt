@@ -20,7 +20,7 @@ use Rattle.wide_groups.specs.Moving.{RetouchesIn}
 use Rattle.wide_groups.specs.Awake.{IsListedIn, CalmsIn, TurnedIn, ListsIn}
 use Rattle.wide_groups.proofs.WideCases.{listed_in, enough_in, listed_calm, listed_turned, holds_turned, TurnedIn-then, RetouchesIn-from}
 use Rattle.part_steps.proofs.TakingLemmas.{IsTaken-then}
-use Rattle.part_steps.proofs.AdvanceLemmas.{AreChanges, AreChanges-from_Evaluated, agreed_left, agreed_right, changes_inside, changes_agree, cleared_rooms}
+use Rattle.part_advance.proofs.AdvanceLemmas.{AreChanges, AreChanges-from_Evaluated, agreed_left, agreed_right, changes_inside, changes_agree, cleared_rooms}
 use Rattle.run_beside.specs.Following.{IsWritten, FollowsAt}
 use Rattle.run_beside.specs.Near.{AreNearIn, IsFar}
 use Rattle.run_beside.specs.Noticing.{IsConcerned, NoticesBoth}

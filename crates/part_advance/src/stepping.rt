@@ -10,11 +10,8 @@ ghost use Rattle.wide_groups.specs.Awake.{HoldsWide, IsListedIn, TurnedIn, IsWor
 ghost use Rattle.part_steps.specs.Workspaces.{rooms, nodes_noted};
 ghost use Rattle.part_steps.specs.Dense.{AreDense};
 
-use crate::agenda::{Agenda, mark_all};
-use crate::dense::DenseParts;
-use crate::evaluation::{Workspace, evaluate_all};
-use crate::readers::ReaderLists;
 use machine_parts::MachinePart;
+use part_steps::{Agenda, DenseParts, ReaderLists, Workspace, evaluate_all, mark_all};
 use part_words::Change;
 use std::sync::ledger::Ledger;
 use ternary::{Steps, Tern};

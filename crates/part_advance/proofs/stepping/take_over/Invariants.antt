@@ -3,7 +3,7 @@ use Rattle.std.proofs.Common.{◌≡◌, take}
 use Rattle.machine_parts.specs.Marking.{MarksAll}
 use Rattle.wide_groups.specs.Awake.{TurnedIn}
 use Rattle.machine_parts.specs.Running.{IsTaken, ReadsAny}
-use Rattle.part_steps.proofs.stepping.take_over.Given as goal
+use Rattle.part_advance.proofs.stepping.take_over.Given as goal
 
 abbrev pub invariant-loop-change : goal.invariant-loop-change
 invariant-loop-change l = record {

@@ -20,10 +20,10 @@ use Rattle.wide_groups.specs.Awake.{IsListedIn, CalmsIn, TurnedIn, ListsIn}
 use Rattle.wide_groups.specs.Moving.{RetouchesIn}
 use Rattle.wide_groups.proofs.WideCases.{listed_in, enough_in, listed_calm, listed_turned, holds_turned, TurnedIn-then, RetouchesIn-from}
 use Rattle.part_steps.proofs.TakingLemmas.{IsTaken-then}
-use Rattle.part_steps.proofs.AdvanceLemmas.{AreChanges, AreChanges-from_Evaluated, MarksAll-both, agreed_left, agreed_right, changes_inside, changes_agree, Moves-taken, some_change, no_change, lists_changes, becomes_x, Remarks-taken, cleared_rooms}
-use Rattle.part_steps.proofs.stepping.advance.Given.{Over}
-use Rattle.part_steps.proofs.stepping.advance.Goals.{After-evaluate_awake, After-calm, After-take_over, After-take_over-2}
-use Rattle.part_steps.proofs.stepping.advance.Goals as goal
+use Rattle.part_advance.proofs.AdvanceLemmas.{AreChanges, AreChanges-from_Evaluated, MarksAll-both, agreed_left, agreed_right, changes_inside, changes_agree, Moves-taken, some_change, no_change, lists_changes, becomes_x, Remarks-taken, cleared_rooms}
+use Rattle.part_advance.proofs.stepping.advance.Given.{Over}
+use Rattle.part_advance.proofs.stepping.advance.Goals.{After-evaluate_awake, After-calm, After-take_over, After-take_over-2}
+use Rattle.part_advance.proofs.stepping.advance.Goals as goal
 
 pub evaluate_all-requires : goal.evaluate_all-requires
 evaluate_all-requires g c =

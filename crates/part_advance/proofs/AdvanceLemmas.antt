@@ -80,6 +80,15 @@ noted_awake joining (Some wide) state changes notes change there =
     let is = notes.only change (subst (λ list. Contains list change) notes.list there) in
     record { awake = is.0; steady = is.1.0; response = is.1.1; value = is.1.2; differs = is.2 }
 
+-- a mark that stays was not taken off, or was set again
+pub still_marked : (joining : Bool) (parts : List MachinePart) (old : List Tern) (waiting marks first second : List Bool) (coded : List Change) (done : List ℕ) →
+    ((k : ℕ) → IsStale parts k → IsMarked waiting k) → Evaluated joining parts old waiting marks first coded done →
+    MarksAll (λ k. (joining ≡ true) × Contains done k) first second → (k : ℕ) → StaysMarked joining parts marks k → IsMarked second k
+still_marked true parts old waiting marks first second coded done waits evaluated again k was =
+    elim (evaluated.popped k was) [ inl still ↦ again.stays k still | inr there ↦ again.set k (refl, there) ]
+still_marked false parts old waiting marks first second coded done waits evaluated again k (was, stale) =
+    elim (evaluated.popped k was) [ inl still ↦ again.stays k still | inr there ↦ absurd (evaluated.ready k there (waits k stale)) ]
+
 module _ (joining : Bool) (parts : List MachinePart) (marks : List Bool) (waiting : List Bool) (old : List Tern) (readers : List (SmallVec ℕ)) (room : Rooms)
     (runs : IsRunnable parts marks waiting (length old) readers room) (wide : Option WideData) (noted_room : ℕ)
     (holds : HoldsWide parts old noted_room wide) where
@@ -290,7 +299,7 @@ module _ (joining : Bool) (parts : List MachinePart) (marks : List Bool) (waitin
           Remarks joining parts marks old new third
       Remarks-taken first second third coded done evaluated rest counted again read = record {
         count = read.count ∙ (again.count ∙ counted);
-        stays = λ k stays. read.stays k (stays_by joining coded evaluated again refl k stays);
+        stays = λ k stays. read.stays k (still_marked joining parts old waiting marks first second coded done runs.stale evaluated again k stays);
         reads = λ k change.
             elim (change_of changes change.node) [
               | inl (noted, there, same) ↦
@@ -315,19 +324,6 @@ module _ (joining : Bool) (parts : List MachinePart) (marks : List Bool) (waitin
           kept_by : (kind : Bool) (k : ℕ) → IsMarked marks k → IsStale parts k → StaysMarked kind parts marks k
           kept_by true k was stale = was
           kept_by false k was stale = (was, stale)
-
-          stays_by : (kind : Bool) (coded : List Change) → Evaluated joining parts old waiting marks first coded done →
-              MarksAll (λ k. (joining ≡ true) × Contains done k) first second → kind ≡ joining → (k : ℕ) → StaysMarked kind parts marks k → IsMarked second k
-          stays_by true coded evaluated again is k was =
-              elim (evaluated.popped k was) [
-                | inl still ↦ again.stays k still
-                | inr there ↦ again.set k (sym is, there)
-              ]
-          stays_by false coded evaluated again is k (was, stale) =
-              elim (evaluated.popped k was) [
-                | inl still ↦ again.stays k still
-                | inr there ↦ absurd (evaluated.ready k there (runs.stale k stale))
-              ]
 
 -- the readers of these changes and of those are marked
 pub MarksAll-both : (readers : List (SmallVec ℕ)) (xs ys : List Change) (old mid new : List Bool) → MarksAll (ReadsAny readers xs) old mid →
