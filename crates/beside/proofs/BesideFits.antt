@@ -1,17 +1,15 @@
 -- After a step beside a good run the machine fits beside it again: a part that is apart and isn't marked afterwards was apart before, its members took
 -- their steady states, in this step or before, and it read no change, so it rests.
-use Rattle.std.proofs.Common.{◌≡◌, ℕ, ◌<◌, Bool, true, false, inl, inr, Some, None, List, length, replicate, take, refl, sym, subst, ◌∙◌}
-use Rattle.std.specs.Prelude.{Contains, Option, slice_index_or}
+use Rattle.std.proofs.Common.{◌≡◌, ℕ, ◌<◌, Bool, true, false, inl, inr, List, length, replicate, take, sym, subst, ◌∙◌}
+use Rattle.std.specs.Prelude.{Option}
 use Rattle.std.proofs.lemmas.Bool.{cases_lt}
 use Rattle.std.proofs.lemmas.List.{get_or-replicate}
 use Rattle.ternary.specs.declared.tern.Tern.{Tern}
 use Rattle.switch_paths.specs.Switching.{state_at}
 use Rattle.switch_paths.specs.Graphs.{GraphData, IsWired, nodes}
 use Rattle.switch_paths.specs.Rails.{IsSound}
-use Rattle.switch_paths.specs.Step.{IsResponse}
+use Rattle.switch_paths.specs.Step.{IsResponse, IsStep}
 use Rattle.group_meaning.specs.Groups.{Group}
-use Rattle.group_meaning.proofs.GroupLemmas.{member_storage}
-use Rattle.group_rest.specs.Alike.{IsAlike}
 use Rattle.group_rest.specs.Rest.{Rests, Responded, ReadsNoChange}
 use Rattle.group_rest.proofs.RestingGroups.{unread_group_rests}
 use Rattle.part_words.specs.declared.change.Change.{Change}
@@ -21,15 +19,13 @@ use Rattle.machine_parts.specs.Marking.{IsMarked}
 use Rattle.machine_parts.specs.Running.{AreOwners, IsTaken}
 use Rattle.machine_parts.specs.Stepping.{ReadsChange, StaysMarked}
 use Rattle.machine_parts.proofs.CaseLemmas.{same_or_not, something}
-use Rattle.circuit_texts.specs.Sizes.{refused_in}
-use Rattle.vicinity.specs.Touching.{IsAwake, RestsAsleep, RespondedAsleep}
 use Rattle.vicinity.specs.Wides.{WideData}
-use Rattle.wide_groups.specs.Moving.{IsAwakeIn, HasStaleOnly, RetouchesIn}
-use Rattle.wide_groups.proofs.WideCases.{retouched, none_retouched}
+use Rattle.wide_groups.specs.Moving.{RetouchesIn}
+use Rattle.wide_groups.proofs.WideCases.{none_retouched}
 use Rattle.machine_laws.specs.Machines.{MachineData}
-use Rattle.machine_laws.specs.Fitting.{IsPartOf, IsHeldIn, FitsGraph}
+use Rattle.machine_laws.specs.Fitting.{IsPartOf, FitsGraph}
 use Rattle.machine_laws.proofs.FittingLemmas.{fits_with, none_rest, same_machine}
-use Rattle.machine_laws.proofs.HeldLemmas.{response_there, held_at, held_rests}
+use Rattle.machine_laws.proofs.HeldAgain.{held_again, stale_only_again}
 use Rattle.machine_laws.proofs.PartGroups.{member_of_part}
 use Rattle.run_beside.specs.Agreeing.{IsMove}
 use Rattle.run_beside.specs.Stepping.{MovesBeside, RemarksBeside}
@@ -102,48 +98,9 @@ module _ (g h : GraphData) (wired : IsWired g) (wired_too : IsWired h) (good : L
             ]
       ]
 
-  -- a group that is stepped by vicinities rests again but for what is awake
-  held_again : (one : WideData) → wide ≡ Some one → (k : ℕ) (part : MachinePart) → Stands m.parts k part → 0 < part.members → part.code ≡ None →
-      IsHeldIn h new one (slice_index_or m.uses k None) part
-  held_again one is k part stands some none =
-      let (before, was, touches) = retouched joining m.wide wide m.state new retouches one is in
-      let held = held_at h (all_marked m) fits.fits before was k part stands some none in
-      let stale : IsStale m.parts k = record { part = part; stands = stands; some = some; none = none } in
-      let group = held.group in
-      let same = touches.stays.graph in
-      let rests = held_rests h wired_too before held.wired group held.alike m.state new one.touched.list
-      (held_responded before was k part stands stale held one.touched.list joining move touches.kept)
-      (input_stays g h wired wired_too good apart m fits joining good_next changes owners owned new taken moves) touches.all in
-      record {
-        group = group;
-        is_part = held.is_part;
-        allowed = subst (λ large. refused_in large group ≡ None) (sym touches.stays.large) held.allowed;
-        told = held.told;
-        wired = subst IsWired (sym same) held.wired;
-        alike = subst (λ graph. IsAlike h graph group) (sym same) held.alike;
-        rests = subst (λ graph. RestsAsleep graph new group.members one.touched.list) (sym same) rests;
-      }
-    where
-      held_responded : (before : WideData) → m.wide ≡ Some before → (k : ℕ) (part : MachinePart) → Stands m.parts k part → IsStale m.parts k →
-          (held : IsHeldIn h m.state before (slice_index_or m.uses k None) part) (again : List ℕ) (kind : Bool) → IsMove kind h m.state new →
-          (kind ≡ true → (node : ℕ) → Contains before.touched.list node → Contains again node) →
-          RespondedAsleep before.graph m.state new held.group.members again
-      held_responded before was k part stands stale held again false step kept node member asleep =
-          let in_range = (member_storage h held.group held.alike.here node member).inside in
-          response_there h before.graph held.group m.state wired_too held.wired held.alike node member (state_at new node) (step.each node in_range)
-      held_responded before was k part stands stale held again true step kept node member asleep =
-          let still : ¬ IsAwake before.graph m.state before.touched.list node = λ awake. asleep (awake.0, kept refl awake.0 awake.1, awake.2) in
-          let (place, there) = member_of_part h held.group part held.is_part node member in
-          let has : HasMember m.parts k node = record { part = part; stands = stands; place = place; member = there } in
-          let stays = stale_stays g h wired wired_too good apart m fits joining good_next changes owners owned new taken moves k node has stale
-          (λ awake. still (subst (λ w. IsAwakeIn w m.state node) was awake)) in
-          subst (IsResponse before.graph m.state node) (sym stays) (held.rests node member still)
-
-  -- and its members are those of stale parts
-  stale_only_again : (one : WideData) → wide ≡ Some one → HasStaleOnly m.parts one.graph
-  stale_only_again one is =
-      let (before, was, touches) = retouched joining m.wide wide m.state new retouches one is in
-      subst (HasStaleOnly m.parts) (sym touches.stays.graph) (fits.fits.covers.stale_only before was)
+  -- a plain step is the graph's
+  plain : joining ≡ false → IsStep h m.state new
+  plain is = subst (λ (kind : Bool). IsMove kind h m.state new) is move
 
   -- the rails keep their states
   stays_sound : IsSound new
@@ -158,8 +115,12 @@ module _ (g h : GraphData) (wired : IsWired g) (wired_too : IsWired h) (good : L
   all_fit moved placed =
       let marked : (k : ℕ) (part : MachinePart) → Stands m.parts k part → IsMarked (replicate (length m.parts) true) k =
       λ k part stands. get_or-replicate (length m.parts) k true false stands.inside in
+      let inputs = input_stays g h wired wired_too good apart m fits joining good_next changes owners owned new taken moves in
+      let asleep = stale_stays g h wired wired_too good apart m fits joining good_next changes owners owned new taken moves in
       fits_with h (all_marked m) fits.fits (replicate (length m.parts) true) new m.last moved placed wide (moves.count ∙ fits.fits.covers.counted)
-      (λ k part stands some none. marked k part stands) (λ k part stands unmarked. absurd (unmarked (marked k part stands))) stale_only_again held_again
+      (λ k part stands some none. marked k part stands) (λ k part stands unmarked. absurd (unmarked (marked k part stands)))
+      (stale_only_again h wired_too (all_marked m) fits.fits joining new plain inputs asleep wide retouches)
+      (held_again h wired_too (all_marked m) fits.fits joining new plain inputs asleep wide retouches)
       (none_retouched joining m.wide wide m.state new retouches) stays_sound
 
   -- and it fits beside the good run

@@ -9,33 +9,28 @@ use Rattle.strength_order.specs.declared.TheConstants.{INPUT_LEVEL}
 use Rattle.switch_paths.specs.Switching.{state_at}
 use Rattle.switch_paths.specs.Graphs.{GraphData, IsWired, IsStorage, nodes, level_of}
 use Rattle.switch_paths.specs.Step.{IsResponse}
-use Rattle.switch_paths.proofs.ExistingSteps.{exists}
-use Rattle.switch_paths.proofs.UniqueSteps.{response_is_unique}
 use Rattle.group_meaning.specs.Groups.{Group}
 use Rattle.group_meaning.proofs.GroupLemmas.{storage_or_input}
 use Rattle.group_rest.specs.Rest.{Reads}
 use Rattle.group_rest.proofs.AlikeGroups.{alike_groups_read_alike}
 use Rattle.straight_code.specs.Code.{CodeData, code_value}
 use Rattle.part_words.specs.declared.change.Change.{Change}
-use Rattle.part_words.specs.Noting.{after}
 use Rattle.machine_parts.specs.declared.part.MachinePart.{MachinePart}
-use Rattle.machine_parts.specs.Parts.{Stands, IsMemberAt, HasMember, IsStale}
+use Rattle.machine_parts.specs.Parts.{Stands, HasMember, IsStale}
 use Rattle.machine_parts.specs.Marking.{IsMarked}
 use Rattle.machine_parts.specs.Running.{AreOwners, IsTaken}
 use Rattle.machine_parts.specs.Stepping.{Concerns, IsGiven}
-use Rattle.machine_parts.proofs.CaseLemmas.{after-same, same_or_not, something, true_or_not}
+use Rattle.machine_parts.proofs.CaseLemmas.{same_or_not, something, true_or_not}
 use Rattle.machine_parts.proofs.PartLemmas.{same_part, HasMember-from_Gives}
-use Rattle.vicinity.specs.Touching.{IsAwake}
 use Rattle.vicinity.specs.Wides.{WideData}
-use Rattle.vicinity.proofs.SleepingNodes.{same_tern}
-use Rattle.wide_groups.specs.Moving.{graph_in, IsAwakeIn}
+use Rattle.wide_groups.specs.Moving.{IsAwakeIn}
 use Rattle.wide_groups.proofs.WideCases.{awake_stale}
 use Rattle.part_steps.proofs.TakingLemmas.{change_of}
 use Rattle.machine_laws.specs.Machines.{MachineData}
 use Rattle.machine_laws.specs.Fitting.{IsPartOf}
-use Rattle.machine_laws.proofs.HeldLemmas.{known_or_not, response_there, held_at}
+use Rattle.machine_laws.proofs.HeldLemmas.{known_or_not}
 use Rattle.machine_laws.proofs.PartGroups.{member_in_group, member_of_part}
-use Rattle.machine_laws.proofs.ResponseLemmas.{given_is_response, member_is_storage, storage_has_part}
+use Rattle.machine_laws.proofs.ResponseLemmas.{MovesTo-held, given_is_response, member_is_storage, storage_has_part}
 use Rattle.run_beside.specs.Agreeing.{Agrees, IsMove, Follows, IsEvaluated, StaysAtRest}
 use Rattle.run_beside.specs.Following.{FollowsAt}
 use Rattle.run_beside.specs.Stepping.{MovesBeside}
@@ -198,33 +193,12 @@ module _ (g h : GraphData) (wired : IsWired g) (wired_too : IsWired h) (good : L
         } in
         record { answer = _; response = given_response node _ given; takes = moves.given node _ given }
 
-    -- and so is one of a group that is stepped by vicinities: if it is awake it takes its steady state, and if not it has it
+    -- and so is one of a group that is stepped by vicinities
     held : (wide : WideData) → m.wide ≡ Some wide → (k node : ℕ) → HasMember m.parts k node → IsStale m.parts k → node < nodes h →
         IsEvaluated joining h m.state new node
     held wide is k node has stale in_range =
-        let held = held_at h (all_marked m) fits.fits wide is k stale.part stale.stands stale.some stale.none in
-        let part = same_part m.parts k has.part stale.part has.stands stale.stands in
-        let at_place : IsMemberAt stale.part has.place node = subst (λ p. IsMemberAt p has.place node) part has.member in
-        let member = member_in_group h held.group stale.part held.is_part has.place node at_place in
-        let step = exists h wired_too m.state in
-        let value = state_at step.0 node in
-        let response : IsResponse h m.state node value = step.1.each node in_range in
-        let there = response_there h wide.graph held.group m.state wired_too held.wired held.alike node member value response in
-        let awake_moves : IsAwake wide.graph m.state wide.touched.list node → state_at new node ≡ after joining (state_at m.state node) value =
-        λ awake. moves.awake node value (subst (λ w. IsAwakeIn w m.state node) (sym is) awake)
-        (subst (λ w. IsResponse (graph_in w) m.state node value) (sym is) there) in
-        let asleep_moves : ¬ IsAwake wide.graph m.state wide.touched.list node → state_at new node ≡ after joining (state_at m.state node) value =
-        λ asleep.
-        let same : state_at m.state node ≡ value =
-        response_is_unique wide.graph m.state node (state_at m.state node) value (held.rests node member asleep) there in
-        stale_stays k node has stale (λ awake. asleep (subst (λ w. IsAwakeIn w m.state node) is awake))
-        ∙ (sym (after-same joining (state_at m.state node)) ∙ ap (after joining (state_at m.state node)) same) in
-        record {
-          answer = value;
-          response = response;
-          takes = same_tern (state_at new node) (after joining (state_at m.state node) value)
-              (λ differs. differs (asleep_moves (λ awake. differs (awake_moves awake))));
-        }
+        let to = MovesTo-held h wired_too (all_marked m) fits.fits joining new moves.awake wide is k node has stale in_range (stale_stays k node has stale) in
+        record { answer = to.value; response = to.response; takes = to.moves }
 
     -- a member of a marked part is evaluated
     evaluated : (k node : ℕ) → HasMember m.parts k node → IsMarked m.marks k → node < nodes h → IsEvaluated joining h m.state new node

@@ -1,3 +1,4 @@
 pub mod Recorded
 pub mod Counting
 pub mod Placing
+pub mod Words

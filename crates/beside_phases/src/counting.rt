@@ -1,26 +1,18 @@
 //! A phase of the run under a fault beside the good run's, whose steps are counted and shown.
-ghost use Rattle.std.specs.Prelude.{◌≡◌, ◌≢◌, ℕ, ◌+◌, ◌-◌, ◌^◌, ◌<◌, ◌≤◌, [], List, length, not, nat_lt, Contains};
+ghost use Rattle.std.specs.Prelude.{◌≡◌, ◌≢◌, ℕ, ◌+◌, ◌-◌, ◌^◌, ◌<◌, ◌≤◌, [], length, not, nat_lt, Contains};
 ghost use Rattle.std.specs.Bool.{OnTrue, OnFalse};
-ghost use Rattle.ternary.specs.declared.tern.Tern.{Tern};
-ghost use Rattle.switch_paths.specs.Switching.{state_at};
-ghost use Rattle.settling.specs.Moved.{ListsChanges};
 ghost use Rattle.part_words.specs.declared.change.Change.{Change};
-ghost use Rattle.machine_parts.specs.Words.{AreAgreed, IsMarked, IsTaken};
-ghost use Rattle.good_run.specs.Words.{state_before};
-ghost use Rattle.run_beside.specs.Words.{IsReplacement};
-ghost use Rattle.unit_step.specs.Beside.{AdvancesBeside, KeepsPartsApart};
-ghost use Rattle.unit_step.specs.Listing.{nodes_told};
-ghost use Rattle.beside.specs.Fitting.{FitsBeside};
-ghost use Rattle.beside.specs.Phases.{IsPhaseOf};
+ghost use Rattle.beside_phases.specs.Words.{state_at, AreAgreed, IsMarked, IsTaken, state_before, IsReplacement};
+ghost use Rattle.beside_phases.specs.Words.{AdvancesBeside, KeepsPartsApart, FitsBeside, IsPhaseOf};
 ghost use Rattle.beside_phases.specs.Counting.{ComesToRest, CountsBeside, FollowsOne, SettlesSeen, SomeFollows};
 
 use good_run::Recorder;
 use part_words::Change;
-use settling::{Onlooker, Settled, unfailing};
+use settling::{Onlooker, Settled};
 use std::sync::ledger::Ledger;
 use switch_paths::{Graph, graphs_are_wired};
 use ternary::{Steps, Tern};
-use unit_step::{Machine, Watched};
+use unit_step::{Machine, show};
 use vicinity::NodeSet;
 
 /// Settles the run under a fault beside the good run's phase, whose steps are those of the record from one place up to another; counts
@@ -236,17 +228,6 @@ fn step_seen<O: Onlooker, L: Ledger>(
     let mut changed = None;
     show(machine, &mut changed, onlooker);
     true
-}
-
-/// Shows the machine's state, which differs at listed nodes alone from one that is known.
-pub fn show<O: Onlooker>(machine: &mut Machine, changed: &mut Option<Vec<usize>>, onlooker: &mut O)
-    requires { (old : List Tern) × O.knows onlooker.old old × ListsChanges (nodes_told changed.old (length machine.old.state)) old machine.old.state }
-    ensures same { machine.new ≡ machine.old }
-    ensures list { changed.new ≡ changed.old }
-    ensures seen { O.seen onlooker.new ≡ O.see (O.seen onlooker.old) machine.old.state }
-    ensures knows { O.knows onlooker.new machine.old.state }
-{
-    unfailing(onlooker.see(&Watched { machine, changed }));
 }
 
 // Takes a step beside the good run's, and answers whether it changed the state under the fault.

@@ -18,6 +18,7 @@ mod counting;
 mod laws;
 mod placing;
 
-pub use counting::{is_joining, settle_counted, settled, show};
+pub use counting::{is_joining, settle_counted, settled};
 pub use laws::{phases_are_recorded, placing_in_both_fits_beside};
 pub use placing::place_both;
+pub use unit_step::show;

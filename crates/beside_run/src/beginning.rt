@@ -2,11 +2,8 @@
 ghost use Rattle.std.specs.Prelude.{◌≡◌, ℕ, ◌<◌, ◌≤◌, length, slice_set, Contains};
 ghost use Rattle.std.specs.Bool.{OnTrue};
 ghost use Rattle.switch_paths.specs.declared.TheConstants.{RAILS};
-ghost use Rattle.switch_paths.specs.Switching.{state_at};
+ghost use Rattle.beside_run.specs.Words.{state_at, AreAgreed, IsIn, FitsBeside};
 ghost use Rattle.part_words.specs.declared.change.Change.{Change};
-ghost use Rattle.machine_parts.specs.Words.{AreAgreed};
-ghost use Rattle.vicinity.specs.NodeSets.{IsIn};
-ghost use Rattle.beside.specs.Fitting.{FitsBeside};
 ghost use Rattle.beside_run.specs.Running.{LagsAt, PlacesChange, PlacesChanges, PlacesSome};
 
 use beside_phases::place_both;

@@ -1,12 +1,7 @@
 //! A phase of the run under a fault.
 ghost use Rattle.std.specs.Prelude.{◌≡◌, ℕ, ◌+◌, ◌-◌, ◌^◌, ◌<◌, ◌≤◌, length};
 ghost use Rattle.switch_paths.specs.declared.TheConstants.{RAILS};
-ghost use Rattle.switch_paths.specs.Rails.{IsSound};
-ghost use Rattle.switch_paths.specs.Switching.{state_at};
-ghost use Rattle.vicinity.specs.NodeSets.{IsIn};
-ghost use Rattle.good_run.specs.Words.{state_before};
-ghost use Rattle.beside.specs.Fitting.{FitsBeside};
-ghost use Rattle.good_phases.specs.Phases.{IsBeat};
+ghost use Rattle.beside_run.specs.Words.{IsSound, state_at, IsIn, state_before, FitsBeside, IsBeat};
 ghost use Rattle.beside_run.specs.Running.{BeginsPhase, IsRunBeside, SettlesRun};
 
 use crate::beginning::{place_changes, place_given};

@@ -2,13 +2,13 @@
 use Rattle.std.proofs.Common.{◌≡◌, ℕ, zero, suc, ◌+◌, ◌-◌, ◌<◌, ◌≤◌, List, [], ◌∷◌, ◌++◌, length, map, take, drop, refl, sym, ap, ap₂, subst, ◌∙◌, arith}
 use Rattle.std.specs.Prelude.{Contains, slice_index_or}
 use Rattle.std.proofs.Math.Seq.{take-add}
-use Rattle.std.proofs.lemmas.List.{drop-take, take-append-le, length-append}
+use Rattle.std.proofs.lemmas.List.{drop-take, take-append-le, length-append, length-map}
 use Rattle.ternary.specs.declared.tern.Tern.{Tern}
 use Rattle.part_words.specs.declared.change.Change.{Change}
 use Rattle.machine_parts.specs.Running.{AreAgreed, IsTaken}
 use Rattle.good_run.specs.declared.look.Look.{Look}
 use Rattle.good_run.specs.Recording.{Shown}
-use Rattle.good_run.specs.Looks.{applied, between, shown_in, from_of, last_end, GiveStates, IsLook, AreLooks}
+use Rattle.good_run.specs.Looks.{applied, between, shown_at, shown_in, from_of, last_end, GiveStates, IsLook, AreLooks}
 use Rattle.good_run.proofs.AppliedLemmas.{applied-append, AreAgreed-give, IsTaken-applied}
 
 -- the changes between two places, as those up to the second but for those up to the first
@@ -55,6 +55,11 @@ shown_in-more start changes more from [] are = refl
 shown_in-more start changes more from (look ∷ looks) are =
     ap₂ (λ (list : List Change) (rest : List Shown). record { begins = look.begins; state = applied list start } ∷ rest)
     (take-append-le look.end changes more are.0.inside) (shown_in-more start changes more look.end looks are.1)
+
+-- there are as many looks as states were shown
+pub shown_look : (start : List Tern) (changes : List Change) (looks read : List Look) (at count : ℕ) → at < count → length (shown_in start changes looks) ≡ count →
+    read ≡ looks → at < length read
+shown_look start changes looks read at count inside counted is = omega (arith, inside, counted, length-map looks (shown_at start changes), ap length is)
 
 -- what begins with a look begins with the state that it saw
 pub begins_same : (start : List Tern) (changes : List Change) (looks : List Look) →

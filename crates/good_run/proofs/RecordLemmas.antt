@@ -5,6 +5,7 @@ use Rattle.std.proofs.Math.Seq.{take-length, drop-append_seam}
 use Rattle.std.proofs.lemmas.Bool.{cases_Bool, and_from, and_parts, lt-ltb, le-ltb, ltb-true, ltb-false, eq-eqb, eqb-true}
 use Rattle.std.proofs.lemmas.List.{append-nil, length-append, length_push, map-append, take_rest}
 use Rattle.ternary.specs.declared.tern.Tern.{Tern}
+use Rattle.settling.specs.Moved.{ListsChanges}
 use Rattle.part_words.specs.declared.change.Change.{Change}
 use Rattle.good_run.specs.declared.look.Look.{Look}
 use Rattle.good_run.specs.Recording.{RunData, count_apart, has_room, with_look, without_look, look_at}
@@ -18,6 +19,10 @@ look_noted begins run state room = ap (λ there. if there then with_look begins 
 
 pub look_lost : (begins : Bool) (run : RunData) (state : List Tern) → has_room run state ≡ false → look_at begins run state ≡ without_look run state
 look_lost begins run state room = ap (λ there. if there then with_look begins run state else without_look run state) room
+
+-- if it was known which state was shown before, the list of changes is from that one
+pub lists_from_known : (run : RunData) (nodes : List ℕ) (old new : List Tern) → run.known ≡ old → ListsChanges nodes old new → ListsChanges nodes run.known new
+lists_from_known run nodes old new knows lists = subst (λ states. ListsChanges nodes states new) (sym knows) lists
 
 -- it is known afterwards in either case
 pub look_known : (begins : Bool) (run : RunData) (state : List Tern) → (look_at begins run state).known ≡ state

@@ -327,11 +327,6 @@ impl Observer for Recorder {
 
     ghost part = { λ _ _ _ _. ⊥ };
 
-    #[inline]
-    fn is_once_enough(&self) -> bool {
-        false
-    }
-
     fn see<M: Moved>(&mut self, moved: &M) -> Result<(), Never> {
         self.note(false, moved);
         Ok(())

@@ -13,14 +13,14 @@ use Rattle.channel_groups.specs.Changes.{undo}
 use Rattle.group_rest.specs.Rest.{Rests}
 use Rattle.group_rest.proofs.AlikeGroups.{alike_groups_rest_alike}
 use Rattle.machine_parts.specs.declared.part.MachinePart.{MachinePart}
-use Rattle.machine_parts.specs.Parts.{Stands, IsMemberAt}
+use Rattle.machine_parts.specs.Parts.{Stands, HasMember, IsMemberAt}
 use Rattle.machine_parts.specs.Marking.{IsMarked}
 use Rattle.machine_parts.proofs.PartLemmas.{same_part}
 use Rattle.machine_laws.specs.Machines.{MachineData}
-use Rattle.machine_laws.specs.Fitting.{Covers, FitsGraph}
+use Rattle.machine_laws.specs.Fitting.{IsPartOf, Covers, FitsGraph}
 use Rattle.machine_laws.specs.Editing.{Edits, Finishes, is_touched_in, with_new_nodes}
 use Rattle.machine_laws.specs.Columns.{in_column, KeepsMarking, EditsKeepColumns, EditsAddNoTexts, FinishesKeepColumns, FittingMachinesFitAll}
-use Rattle.machine_laws.proofs.FittingLemmas.{none_rest}
+use Rattle.machine_laws.proofs.FittingLemmas.{none_rest, covers_with, fits_with}
 use Rattle.machine_laws.proofs.HeldLemmas.{coded_without, known_or_not}
 use Rattle.machine_laws.proofs.KeptLemmas.{untouched_alike}
 use Rattle.machine_laws.proofs.PartGroups.{some_members, member_in_group, member_of_part}
@@ -70,25 +70,10 @@ module _ (g : GraphData) (change : Change) (old new : MachineData) (marks new_ma
       ]
 
   column_covers : Covers g (in_column new new_marks (with_new_nodes state (nodes g)))
-  column_covers = record {
-    groups = edits.covers.groups;
-    kept = edits.covers.kept;
-    are = edits.covers.are;
-    counted = counted_grown g change state column.counted;
-    each = edits.covers.each;
-    whole = edits.covers.whole;
-    apart = edits.covers.apart;
-    number = edits.covers.number;
-    known = edits.covers.known;
-    numbered = edits.covers.numbered;
-    textless = edits.covers.textless;
-    uses_counted = edits.covers.uses_counted;
-    quiet = edits.covers.quiet;
-    waits = still_waits;
-    rests = still_rests;
-    stale_only = λ wide is. absurd (none_known new.wide wide without is);
-    held = λ wide is. absurd (none_known new.wide wide without is);
-  }
+  column_covers =
+      covers_with g new edits.covers new_marks (with_new_nodes state (nodes g)) new.last new.moves new.placed new.spare new.wide
+      (counted_grown g change state column.counted) still_waits still_rests (λ wide is. absurd (none_known new.wide wide without is))
+      (λ wide is. absurd (none_known new.wide wide without is))
 
 -- a column covers the graph after an edit
 pub edits_keep_columns : EditsKeepColumns
@@ -109,6 +94,14 @@ edits_add_no_texts g change old new edits none k stale =
 
 -- ---- a finish
 
+-- of a part with members its group, whose least member was one of the part before
+member_before : (g : GraphData) (old new : MachineData) → Finishes g old new → (k : ℕ) (part : MachinePart) → Stands new.parts k part → 0 < part.members →
+    (group : Group) × IsPartOf g group part × HasMember old.parts k (id_of group)
+member_before g old new finishes k part stands some =
+    let (group, is_part) = finishes.fits.covers.whole k part stands some in
+    let (place, at) = member_of_part g group part is_part (id_of group) (id_member g group is_part.is_group) in
+    (group, is_part, (finishes.members k (id_of group)).0 (record { part = part; stands = stands; place = place; member = at }))
+
 module _ (g : GraphData) (old new : MachineData) (marks : List Bool) (state : List Tern) (finishes : Finishes g old new) (without : new.wide ≡ None)
     (column : Covers g (in_column old marks state)) (sound : IsSound state) where
   -- a part has the members that it had, so those of one without a mark rest
@@ -117,11 +110,9 @@ module _ (g : GraphData) (old new : MachineData) (marks : List Bool) (state : Li
       elim (cases_lt 0 part.members) [
         | inr none ↦ none_rest g state part.map.items part.members none
         | inl some ↦
-            let (group, is_part) = finishes.fits.covers.whole k part stands some in
+            let (group, is_part, had) = member_before g old new finishes k part stands some in
             let node = id_of group in
             let member = id_member g group is_part.is_group in
-            let (place, at) = member_of_part g group part is_part node member in
-            let had = (finishes.members k node).0 (record { part = part; stands = stands; place = place; member = at }) in
             let (was, was_part) = column.whole k had.part had.stands (omega (arith, had.member.inside)) in
             let same : was ≡ group =
             same_by_member g was group was_part.is_group is_part.is_group node (member_in_group g was had.part was_part had.place node had.member) member in
@@ -131,32 +122,9 @@ module _ (g : GraphData) (old new : MachineData) (marks : List Bool) (state : Li
 
   column_fits : FitsGraph g (in_column new marks state)
   column_fits =
-      let now = finishes.fits.covers in
-      record {
-        covers = record {
-          groups = now.groups;
-          kept = now.kept;
-          are = now.are;
-          counted = column.counted;
-          each = now.each;
-          whole = now.whole;
-          apart = now.apart;
-          number = now.number;
-          known = now.known;
-          numbered = now.numbered;
-          textless = now.textless;
-          uses_counted = now.uses_counted;
-          quiet = now.quiet;
-          waits = λ k part stands some none. absurd (coded_without g new finishes.fits without k part stands some none);
-          rests = finished_rests;
-          stale_only = λ wide is. absurd (none_known new.wide wide without is);
-          held = λ wide is. absurd (none_known new.wide wide without is);
-        };
-        coded = λ k part stands some none. absurd (coded_without g new finishes.fits without k part stands some none);
-        railed = finishes.fits.railed;
-        sound = sound;
-        texts = finishes.fits.texts;
-      }
+      fits_with g new finishes.fits marks state new.last new.moves new.placed new.wide column.counted
+      (λ k part stands some none. absurd (coded_without g new finishes.fits without k part stands some none)) finished_rests
+      (λ wide is. absurd (none_known new.wide wide without is)) (λ wide is. absurd (none_known new.wide wide without is)) (λ none. none) sound
 
 -- a part has no more members than it had
 pub finished_members : (g : GraphData) (old new : MachineData) → Finishes g old new → Covers g old → (k : ℕ) (was part : MachinePart) → Stands old.parts k was →
@@ -165,11 +133,9 @@ finished_members g old new finishes covers k was part stood stands =
     elim (cases_lt 0 part.members) [
       | inr none ↦ omega (arith, none)
       | inl some ↦
-          let (group, is_part) = finishes.fits.covers.whole k part stands some in
+          let (group, is_part, had) = member_before g old new finishes k part stands some in
           let node = id_of group in
           let member = id_member g group is_part.is_group in
-          let (place, at) = member_of_part g group part is_part node member in
-          let had = (finishes.members k node).0 (record { part = part; stands = stands; place = place; member = at }) in
           let own : had.part ≡ was = same_part old.parts k had.part was had.stands stood in
           let before : IsMemberAt was had.place node = subst (λ (one : MachinePart). IsMemberAt one had.place node) own had.member in
           let (one, was_part) = covers.whole k was stood (omega (arith, before.inside)) in
@@ -184,25 +150,8 @@ finishes_keep_columns g old new marks state finishes without column sound = colu
 
 -- a machine with more room covers and fits what it did
 pub covers_roomed : (g : GraphData) (m : MachineData) (spare : ℕ) → Covers g m → Covers g (record m { spare = spare })
-covers_roomed g m spare covers = record {
-  groups = covers.groups;
-  kept = covers.kept;
-  are = covers.are;
-  counted = covers.counted;
-  each = covers.each;
-  whole = covers.whole;
-  apart = covers.apart;
-  number = covers.number;
-  known = covers.known;
-  numbered = covers.numbered;
-  textless = covers.textless;
-  uses_counted = covers.uses_counted;
-  quiet = covers.quiet;
-  waits = covers.waits;
-  rests = covers.rests;
-  stale_only = covers.stale_only;
-  held = covers.held;
-}
+covers_roomed g m spare covers =
+    covers_with g m covers m.marks m.state m.last m.moves m.placed spare m.wide covers.counted covers.waits covers.rests covers.stale_only covers.held
 
 pub fits_roomed : (g : GraphData) (m : MachineData) (spare : ℕ) → FitsGraph g m → FitsGraph g (record m { spare = spare })
 fits_roomed g m spare fits = record {

@@ -104,6 +104,25 @@ first_is g parts k part stands group is_part =
     (get_or-map (λ (one : MachinePart). one.map.items) parts k part [] stands.inside ∙ ap (λ (one : MachinePart). one.map.items) stands.here)
     ∙ (sym (get_or-take part.members part.map.items 0 0 within) ∙ ap (λ nodes. slice_index nodes 0) is_part.members)
 
+-- a group of the machine has a text, if its part has one as soon as it is stale
+pub text_there : (g : GraphData) (m : MachineData) (covers : Covers g m) (group : Group) → Contains covers.groups.groups group →
+    ((k : ℕ) (part : MachinePart) → Stands m.parts k part → part.code ≡ None → IsPartOf g group part → slice_index_or m.uses k None ≢ None) →
+    HasText g m.parts m.uses group
+text_there g m covers group (i, inside, here) told =
+    let groups = covers.groups.groups in
+    let has = covers.each i group (slice_get_read groups (length groups) i group refl inside (sym here)) in
+    record {
+      k = has.k;
+      part = has.part;
+      stands = has.stands;
+      is_part = has.is_part;
+      numbered =
+          elim (known_or_not has.part.code) [
+            | inl (code, is) ↦ covers.numbered has.k has.part has.stands (some_members has.is_part) (λ none. absurd (cc (none, is)))
+            | inr none ↦ told has.k has.part has.stands none has.is_part
+          ];
+    }
+
 module _ (g : GraphData) (m : MachineData) (covers : Covers g m) (count : ℕ) (owners : List (Option ℕ)) (own : AreOwners m.parts count owners) where
   abbrev all_groups : List Group
   all_groups = covers.groups.groups
@@ -337,24 +356,12 @@ module _ (g : GraphData) (m : MachineData) (covers : Covers g m) (count : ℕ) (
 
       -- the part of a group with a text that isn't due has it
       others_told : (group : Group) → Contains all_groups group → due_told group ≡ false → fault_in group ≡ None → HasText g m.parts m.uses group
-      others_told group (i, inside, here) fails fits =
-          let at : slice_get all_groups i ≡ Some group = slice_get_read all_groups (length all_groups) i group refl inside (sym here) in
-          let has = covers.each i group at in
-          record {
-            k = has.k;
-            part = has.part;
-            stands = has.stands;
-            is_part = has.is_part;
-            numbered =
-                elim (known_or_not has.part.code) [
-                  | inl (code, is) ↦ covers.numbered has.k has.part has.stands (some_members has.is_part) (λ none. absurd (cc (none, is)))
-                  | inr none ↦
-                      elim (due_all has.k has.part group has.stands none has.is_part) [
-                        | inl is_due ↦ absurd (both (due group) (has_text group) is_due (text_from_fit group fits) fails)
-                        | inr passed ↦ told has.k has.part group has.stands none has.is_part passed fits
-                      ]
-                ];
-          }
+      others_told group there fails fits =
+          text_there g m covers group there (λ k part stands none is_part.
+          elim (due_all k part group stands none is_part) [
+            | inl is_due ↦ absurd (both (due group) (has_text group) is_due (text_from_fit group fits) fails)
+            | inr passed ↦ told k part group stands none is_part passed fits
+          ])
         where
           both : (a b : Bool) → a ≡ true → b ≡ true → ¬ ((a && b) ≡ false)
           both true true one two fails = true≢false fails

@@ -1,6 +1,6 @@
 -- A step of a machine that fits a graph is the graph's step, and the machine fits the graph again: a part that isn't marked afterwards
 -- read no change, and its members took their steady states in this step or had them before, so they rest.
-use Rattle.std.proofs.Common.{◌≡◌, ℕ, ◌<◌, ◌≤◌, Bool, true, false, inl, inr, List, [], ◌∷◌, None, length, take, refl, sym, ap, subst, ◌∙◌, arith}
+use Rattle.std.proofs.Common.{◌≡◌, ℕ, ◌<◌, ◌≤◌, ◌⊎◌, Bool, true, false, inl, inr, List, [], ◌∷◌, None, length, take, refl, sym, ap, subst, ◌∙◌, arith}
 use Rattle.std.proofs.lemmas.Bool.{cases_lt}
 use Rattle.group_text.specs.Texts.{GroupTextData}
 use Rattle.ternary.specs.declared.tern.Tern.{Tern}
@@ -17,23 +17,20 @@ use Rattle.group_rest.proofs.RestingGroups.{unread_group_rests}
 use Rattle.settling.specs.Settling.{IsJoinStep}
 use Rattle.machine_parts.specs.declared.part.MachinePart.{MachinePart}
 use Rattle.std.specs.Prelude.{Contains, Option, Some, slice_index_or}
-use Rattle.circuit_texts.specs.Sizes.{refused_in}
-use Rattle.group_meaning.proofs.GroupLemmas.{member_storage}
-use Rattle.group_rest.specs.Alike.{IsAlike}
-use Rattle.vicinity.specs.Touching.{IsAwake, RestsAsleep, RespondedAsleep}
 use Rattle.vicinity.specs.Wides.{WideData}
-use Rattle.wide_groups.specs.Moving.{touched_in, HasStaleOnly, IsAwakeIn, MovesIn, RetouchesIn}
-use Rattle.wide_groups.proofs.WideCases.{retouched, none_retouched, retouched_only}
-use Rattle.machine_parts.specs.Parts.{Stands, HasMember, IsStale}
+use Rattle.wide_groups.specs.Moving.{touched_in, HasStaleOnly, MovesIn, RetouchesIn}
+use Rattle.wide_groups.proofs.WideCases.{none_retouched, retouched_only}
+use Rattle.machine_parts.specs.Parts.{Stands, HasMember}
 use Rattle.machine_laws.specs.Machines.{MachineData, Advances, TouchesChanged}
 use Rattle.machine_parts.specs.Marking.{IsMarked}
 use Rattle.machine_parts.specs.Stepping.{ReadsChange}
-use Rattle.machine_laws.specs.Fitting.{IsPartOf, IsHeldIn, FitsGraph}
+use Rattle.machine_laws.specs.Fitting.{IsPartOf, IsHeldIn, IsOutside, Covers, FitsGraph}
 use Rattle.machine_laws.specs.Columns.{KeepsMarks, AdvancesInColumn, ColumnsStepApart, ColumnsJoinApart, MarkedMachinesFit}
 use Rattle.machine_laws.specs.Laws.{StepsAreUnitSteps, JoiningStepsAreJoinSteps}
 use Rattle.machine_parts.proofs.CaseLemmas.{same_or_not, something}
+use Rattle.machine_laws.proofs.HeldAgain.{held_again, stale_only_again}
 use Rattle.machine_laws.proofs.PartGroups.{member_of_part}
-use Rattle.machine_laws.proofs.HeldLemmas.{known_or_not, response_there, held_rests, held_at, coded_without}
+use Rattle.machine_laws.proofs.HeldLemmas.{known_or_not, coded_without}
 use Rattle.machine_laws.proofs.ResponseLemmas.{node_moves, input_stays, stale_stays, unmarked_stays, unmarked_response, member_is_storage}
 
 -- no members rest anywhere
@@ -42,6 +39,36 @@ none_rest g state xs count none node there =
     let is : count ≡ 0 = omega arith in
     let (k, inside, here) = rw is at there in
     absurd (omega (arith, inside))
+
+-- a machine with other states, marks, counts, texts of the last build, room and groups that are stepped by vicinities covers the graph too, if its states are
+-- as many, its stale parts are marked, its unmarked parts rest, and those groups are its own
+pub covers_with : (g : GraphData) (m : MachineData) → Covers g m → (marks : List Bool) (state : List Tern) (last : List GroupTextData) (moved placed spare : ℕ)
+    (wide : Option WideData) → length state ≡ nodes g →
+    ((k : ℕ) (part : MachinePart) → Stands m.parts k part → 0 < part.members → part.code ≡ None → IsMarked marks k) →
+    ((k : ℕ) (part : MachinePart) → Stands m.parts k part → ¬ IsMarked marks k → Rests g state (take part.members part.map.items)) →
+    ((one : WideData) → wide ≡ Some one → HasStaleOnly m.parts one.graph) →
+    ((one : WideData) → wide ≡ Some one → (k : ℕ) (part : MachinePart) → Stands m.parts k part → 0 < part.members → part.code ≡ None →
+    IsHeldIn g state one (slice_index_or m.uses k None) part ⊎ IsOutside one.graph part) →
+    Covers g (record m { marks = marks; state = state; last = last; moves = moved; placed = placed; spare = spare; wide = wide })
+covers_with g m covers marks state last moved placed spare wide counted waits rests stale_only held = record {
+  groups = covers.groups;
+  kept = covers.kept;
+  are = covers.are;
+  counted = counted;
+  each = covers.each;
+  whole = covers.whole;
+  apart = covers.apart;
+  number = covers.number;
+  known = covers.known;
+  numbered = covers.numbered;
+  textless = covers.textless;
+  uses_counted = covers.uses_counted;
+  quiet = covers.quiet;
+  waits = waits;
+  rests = rests;
+  stale_only = stale_only;
+  held = held;
+}
 
 -- a machine with other states, marks, counts and texts of the last build fits the graph too, where its stale parts are marked and its
 -- unmarked parts rest
@@ -55,25 +82,8 @@ pub fits_with : (g : GraphData) (m : MachineData) (fits : FitsGraph g m) (marks 
     (wide ≡ None → m.wide ≡ None) →
     IsSound state → FitsGraph g (record m { marks = marks; state = state; last = last; moves = moved; placed = placed; wide = wide })
 fits_with g m fits marks state last moved placed wide counted waits rests stale_only held none sound = record {
-  covers = record {
-    groups = fits.covers.groups;
-    kept = fits.covers.kept;
-    are = fits.covers.are;
-    counted = counted;
-    each = fits.covers.each;
-    whole = fits.covers.whole;
-    apart = fits.covers.apart;
-    number = fits.covers.number;
-    known = fits.covers.known;
-    numbered = fits.covers.numbered;
-    textless = fits.covers.textless;
-    uses_counted = fits.covers.uses_counted;
-    quiet = fits.covers.quiet;
-    waits = waits;
-    rests = rests;
-    stale_only = stale_only;
-    held = λ one is k part stands some stale. inl (held one is k part stands some stale);
-  };
+  covers = covers_with g m fits.covers marks state last moved placed m.spare wide counted waits rests stale_only
+      (λ one is k part stands some stale. inl (held one is k part stands some stale));
   coded = λ k part stands some stale.
       elim (known_or_not wide) [
         | inl (one, is) ↦ (one, is, held one is k part stands some stale)
@@ -170,49 +180,9 @@ module _ (g : GraphData) (wired : IsWired g) (old : MachineData) (fits : FitsGra
           | inr none ↦ none_rest g new part.map.items part.members none
         ]
 
-    -- a group that is stepped by vicinities rests again but for what is awake
-    held_again : (one : WideData) → wide ≡ Some one → (k : ℕ) (part : MachinePart) → Stands old.parts k part → 0 < part.members → part.code ≡ None →
-        IsHeldIn g new one (slice_index_or old.uses k None) part
-    held_again one is k part stands some none =
-        let (before, was, touches) = retouched joining old.wide wide old.state new retouches one is in
-        let held = held_at g old fits before was k part stands some none in
-        let stale : IsStale old.parts k = record { part = part; stands = stands; some = some; none = none } in
-        let group = held.group in
-        let same = touches.stays.graph in
-        let rests = held_rests g wired before held.wired group held.alike old.state new one.touched.list
-        (held_responded before was k part stands stale held one.touched.list joining moves touches.kept)
-        (input_stays g wired old fits joining new moves) touches.all in
-        record {
-          group = group;
-          is_part = held.is_part;
-          allowed = subst (λ large. refused_in large group ≡ None) (sym touches.stays.large) held.allowed;
-          told = held.told;
-          wired = subst IsWired (sym same) held.wired;
-          alike = subst (λ h. IsAlike g h group) (sym same) held.alike;
-          rests = subst (λ h. RestsAsleep h new group.members one.touched.list) (sym same) rests;
-        }
-      where
-        held_responded : (before : WideData) → old.wide ≡ Some before → (k : ℕ) (part : MachinePart) → Stands old.parts k part → IsStale old.parts k →
-            (held : IsHeldIn g old.state before (slice_index_or old.uses k None) part) (again : List ℕ) (kind : Bool) → MovesIn kind old.parts old.marks old.wide old.state new →
-            (kind ≡ true → (node : ℕ) → Contains before.touched.list node → Contains again node) →
-            RespondedAsleep before.graph old.state new held.group.members again
-        held_responded before was k part stands stale held again false moves kept node member asleep =
-            let in_range = (member_storage g held.group held.alike.here node member).inside in
-            response_there g before.graph held.group old.state wired held.wired held.alike node member (state_at new node)
-            ((plain_step moves).each node in_range)
-        held_responded before was k part stands stale held again true moves kept node member asleep =
-            let still : ¬ IsAwake before.graph old.state before.touched.list node = λ awake. asleep (awake.0, kept refl awake.0 awake.1, awake.2) in
-            let (place, there) = member_of_part g held.group part held.is_part node member in
-            let has : HasMember old.parts k node = record { part = part; stands = stands; place = place; member = there } in
-            let stays = stale_stays g wired old fits true new moves k node has stale
-            (λ awake. still (subst (λ w. IsAwakeIn w old.state node) was awake)) in
-            subst (IsResponse before.graph old.state node) (sym stays) (held.rests node member still)
-
-    -- and its members are those of stale parts
-    stale_only_again : (one : WideData) → wide ≡ Some one → HasStaleOnly old.parts one.graph
-    stale_only_again one is =
-        let (before, was, touches) = retouched joining old.wide wide old.state new retouches one is in
-        subst (HasStaleOnly old.parts) (sym touches.stays.graph) (fits.covers.stale_only before was)
+    -- a plain step is the graph's
+    plain : joining ≡ false → IsStep g old.state new
+    plain is = plain_step (subst (λ (kind : Bool). MovesIn kind old.parts old.marks old.wide old.state new) is moves)
 
     -- the rails keep their states
     stays_sound : IsSound new
@@ -224,8 +194,12 @@ module _ (g : GraphData) (wired : IsWired g) (old : MachineData) (fits : FitsGra
     -- the machine with these states and marks fits the graph again
     pub fits_again : (moved placed : ℕ) → FitsGraph g (record old { marks = marks; state = new; moves = moved; placed = placed; wide = wide })
     fits_again moved placed =
-        fits_with g old fits marks new old.last moved placed wide (moves.count ∙ fits.covers.counted)
-        stale_marked part_rests stale_only_again held_again (none_retouched joining old.wide wide old.state new retouches) stays_sound
+        let inputs = input_stays g wired old fits joining new moves in
+        let asleep = stale_stays g wired old fits joining new moves in
+        fits_with g old fits marks new old.last moved placed wide (moves.count ∙ fits.covers.counted) stale_marked part_rests
+        (stale_only_again g wired old fits joining new plain inputs asleep wide retouches)
+        (held_again g wired old fits joining new plain inputs asleep wide retouches)
+        (none_retouched joining old.wide wide old.state new retouches) stays_sound
 
 -- a machine in which all but states, marks and counts are the same
 pub same_machine : (old new : MachineData) → new.groups ≡ old.groups → new.parts ≡ old.parts → new.uses ≡ old.uses →

@@ -1,5 +1,5 @@
 -- A machine that is ready fits the graph once the groups of its stale parts are held, or if they are already.
-use Rattle.std.proofs.Common.{◌≡◌, ℕ, ◌<◌, ◌≤◌, inl, inr, List, length, take, None, Some, refl, sym, ap, subst, arith}
+use Rattle.std.proofs.Common.{◌≡◌, ℕ, ◌<◌, ◌≤◌, inl, inr, List, length, take, Option, None, Some, refl, sym, ap, subst, arith}
 use Rattle.std.specs.Prelude.{Contains, min, slice_index_or}
 use Rattle.std.proofs.lemmas.Bool.{cases_lt}
 use Rattle.switch_paths.specs.Graphs.{GraphData, IsStorage}
@@ -16,8 +16,9 @@ use Rattle.wide_groups.specs.Staying.{HoldsNode, lowered}
 use Rattle.wide_groups.proofs.StayingLemmas.{none_holds_node, lowered_from}
 use Rattle.wide_groups.specs.Holding.{IsWithin}
 use Rattle.machine_laws.specs.Machines.{MachineData}
-use Rattle.machine_laws.specs.Fitting.{IsPartOf, IsHeldIn, FitsGraph}
+use Rattle.machine_laws.specs.Fitting.{IsPartOf, IsHeldIn, Covers, FitsGraph}
 use Rattle.machine_laws.specs.Holding.{HoldsStale, IsReady}
+use Rattle.machine_laws.proofs.FittingLemmas.{covers_with}
 use Rattle.machine_laws.proofs.HeldLemmas.{known_or_not}
 use Rattle.machine_laws.proofs.KeptLemmas.{group_there}
 use Rattle.machine_laws.proofs.PartGroups.{member_of_part}
@@ -48,6 +49,14 @@ module _ (g : GraphData) (m : MachineData) (ready : IsReady g m) (railed : IsRai
   abbrev all_groups : List Group
   all_groups = ready.covers.groups.groups
 
+  -- it covers the graph with other groups that are stepped by vicinities, if all its stale parts are those of such groups
+  with_wide : (wide : Option WideData) → ((one : WideData) → wide ≡ Some one → HasStaleOnly m.parts one.graph) →
+      ((one : WideData) → wide ≡ Some one → (k : ℕ) (part : MachinePart) → Stands m.parts k part → 0 < part.members → part.code ≡ None →
+      IsHeldIn g m.state one (slice_index_or m.uses k None) part) → Covers g (record m { wide = wide })
+  with_wide wide stale_only held =
+      covers_with g m ready.covers m.marks m.state m.last m.moves m.placed m.spare wide ready.covers.counted ready.covers.waits ready.covers.rests stale_only
+      (λ one is k part stands some none. inl (held one is k part stands some none))
+
   -- if each stale part is that of a group that is stepped by vicinities already, these groups are known as before, with this bound besides
   module _ (known : (k : ℕ) (part : MachinePart) (group : Group) → Stands m.parts k part → part.code ≡ None → IsPartOf g group part → HoldsNode m.wide (id_of group)) where
     held_still : (wide : WideData) → m.wide ≡ Some wide → (k : ℕ) (part : MachinePart) → Stands m.parts k part → 0 < part.members → part.code ≡ None →
@@ -74,29 +83,13 @@ module _ (g : GraphData) (m : MachineData) (ready : IsReady g m) (railed : IsRai
 
     pub FitsGraph-kept : FitsGraph g (record m { wide = lowered large m.wide })
     FitsGraph-kept = record {
-      covers = record {
-        groups = ready.covers.groups;
-        kept = ready.covers.kept;
-        are = ready.covers.are;
-        counted = ready.covers.counted;
-        each = ready.covers.each;
-        whole = ready.covers.whole;
-        apart = ready.covers.apart;
-        number = ready.covers.number;
-        known = ready.covers.known;
-        numbered = ready.covers.numbered;
-        textless = ready.covers.textless;
-        uses_counted = ready.covers.uses_counted;
-        quiet = ready.covers.quiet;
-        waits = ready.covers.waits;
-        rests = ready.covers.rests;
-        stale_only = λ later is.
-            let (wide, was, same) = lowered_from large m.wide later is in
-            subst (λ (w : WideData). HasStaleOnly m.parts w.graph) (sym same) (ready.covers.stale_only wide was);
-        held = λ later is k part stands some none.
-            let (wide, was, same) = lowered_from large m.wide later is in
-            inl (subst (λ (w : WideData). IsHeldIn g m.state w (slice_index_or m.uses k None) part) (sym same) (held_still wide was k part stands some none));
-      };
+      covers = with_wide (lowered large m.wide)
+          (λ later is.
+          let (wide, was, same) = lowered_from large m.wide later is in
+          subst (λ (w : WideData). HasStaleOnly m.parts w.graph) (sym same) (ready.covers.stale_only wide was))
+          (λ later is k part stands some none.
+          let (wide, was, same) = lowered_from large m.wide later is in
+          subst (λ (w : WideData). IsHeldIn g m.state w (slice_index_or m.uses k None) part) (sym same) (held_still wide was k part stands some none));
       coded = λ k part stands some none.
           elim (known_or_not m.wide) [
             | inl (wide, was) ↦
@@ -142,29 +135,13 @@ module _ (g : GraphData) (m : MachineData) (ready : IsReady g m) (railed : IsRai
     -- the machine fits the graph with them
     pub FitsGraph-holding : FitsGraph g (record m { wide = Some wide })
     FitsGraph-holding = record {
-      covers = record {
-        groups = ready.covers.groups;
-        kept = ready.covers.kept;
-        are = ready.covers.are;
-        counted = ready.covers.counted;
-        each = ready.covers.each;
-        whole = ready.covers.whole;
-        apart = ready.covers.apart;
-        number = ready.covers.number;
-        known = ready.covers.known;
-        numbered = ready.covers.numbered;
-        textless = ready.covers.textless;
-        uses_counted = ready.covers.uses_counted;
-        quiet = ready.covers.quiet;
-        waits = ready.covers.waits;
-        rests = ready.covers.rests;
-        stale_only = λ known is.
-            let same : wide ≡ known = cc is in
-            subst (λ (w : WideData). HasStaleOnly m.parts w.graph) same held_stale_only;
-        held = λ known is k part stands some none.
-            let same : wide ≡ known = cc is in
-            inl (subst (λ (w : WideData). IsHeldIn g m.state w (slice_index_or m.uses k None) part) same (held_part k part stands some none));
-      };
+      covers = with_wide (Some wide)
+          (λ known is.
+          let same : wide ≡ known = cc is in
+          subst (λ (w : WideData). HasStaleOnly m.parts w.graph) same held_stale_only)
+          (λ known is k part stands some none.
+          let same : wide ≡ known = cc is in
+          subst (λ (w : WideData). IsHeldIn g m.state w (slice_index_or m.uses k None) part) same (held_part k part stands some none));
       coded = λ k part stands some none. (wide, refl, held_part k part stands some none);
       railed = railed;
       sound = sound;

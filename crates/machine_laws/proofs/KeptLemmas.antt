@@ -21,7 +21,7 @@ use Rattle.group_text.specs.FirstTexts.{is_among}
 use Rattle.group_analysis.specs.Using.{kept_after}
 use Rattle.group_rest.specs.Alike.{IsAlike}
 use Rattle.group_rest.specs.Rest.{Rests}
-use Rattle.group_rest.proofs.AlikeGroups.{alike_groups_have_one_text, alike_groups_rest_alike}
+use Rattle.group_rest.proofs.AlikeGroups.{IsAlike-sym, alike_groups_have_one_text, alike_groups_rest_alike}
 use Rattle.analysis_cache.proofs.UseLemmas.{each_present}
 use Rattle.vicinity.specs.Wides.{WideData}
 use Rattle.machine_parts.specs.declared.part.MachinePart.{MachinePart}
@@ -156,15 +156,6 @@ module _ (g : GraphData) (change : Change) (old new : MachineData) (wired_before
         levels = kept.members;
       }
 
--- the other way round
-alike_back : (g h : GraphData) (group : Group) → IsAlike g h group → IsAlike h g group
-alike_back g h group alike = record {
-  here = alike.there;
-  there = alike.here;
-  places = λ place inside. sym (alike.places place inside);
-  levels = λ node inside. sym (alike.levels node inside);
-}
-
 -- after an edit the parts that have a text are those of untouched groups
 pub edits_keep_texts : EditsKeepTexts
 edits_keep_texts g change kept old new wired_before wired covers edits known k part stands numbered group is_part =
@@ -173,7 +164,7 @@ edits_keep_texts g change kept old new wired_before wired covers edits known k p
       | inr untouched ↦
           let before = undo g change in
           let alike = untouched_alike g change old new wired_before wired covers edits group is_part.is_group untouched in
-          let was_part = alike_groups_keep_their_parts g before group part wired wired_before (alike_back before g group alike) is_part in
+          let was_part = alike_groups_keep_their_parts g before group part wired wired_before (IsAlike-sym before g group alike) is_part in
           let was = known k part (edits.stays k part group stands is_part untouched)
           (λ none. numbered (edits.texts k part group stands is_part untouched ∙ none)) group was_part in
           ap (is_among kept) (alike_groups_have_one_text before g group alike).1 ∙ was

@@ -1,5 +1,6 @@
 pub mod HeldLemmas
 pub mod ResponseLemmas
+pub mod HeldAgain
 pub mod FittingLemmas
 pub mod PlacingLemmas
 pub mod FillingLemmas

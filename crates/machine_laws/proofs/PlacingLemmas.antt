@@ -29,7 +29,7 @@ use Rattle.machine_laws.specs.Laws.{PlacingKeepsCover, PlacingKeepsFit}
 use Rattle.machine_parts.proofs.CaseLemmas.{something}
 use Rattle.machine_laws.proofs.PartGroups.{member_of_part}
 use Rattle.machine_laws.proofs.HeldLemmas.{known_or_not, held_at, coded_without}
-use Rattle.machine_laws.proofs.FittingLemmas.{none_rest, same_machine}
+use Rattle.machine_laws.proofs.FittingLemmas.{covers_with, none_rest, same_machine}
 use Rattle.smallvec.specs.SmallVec.{SmallVec}
 use Rattle.machine_parts.specs.Evaluating.{Rooms}
 use Rattle.machine_parts.specs.Running.{IsMachine}
@@ -108,25 +108,10 @@ module _ (g : GraphData) (wired : IsWired g) (node : ℕ) (value : Tern) (old ne
       subst (HasStaleOnly old.parts) (sym placed.stays.graph) (covers.stale_only before_it was)
 
   covers_again : (moved placed : ℕ) → Covers g (record old { marks = new.marks; state = new.state; moves = moved; placed = placed; wide = new.wide })
-  covers_again moved placed = record {
-    groups = covers.groups;
-    kept = covers.kept;
-    are = covers.are;
-    counted = ap length places.state ∙ (length-set old.state node value ∙ covers.counted);
-    each = covers.each;
-    whole = covers.whole;
-    apart = covers.apart;
-    number = covers.number;
-    known = covers.known;
-    numbered = covers.numbered;
-    textless = covers.textless;
-    uses_counted = covers.uses_counted;
-    quiet = covers.quiet;
-    waits = λ k part stands some none. places.stays k (covers.waits k part stands some none);
-    rests = part_rests;
-    stale_only = stale_only_again;
-    held = held_again;
-  }
+  covers_again moved placed =
+      covers_with g old covers new.marks new.state old.last moved placed old.spare new.wide
+      (ap length places.state ∙ (length-set old.state node value ∙ covers.counted))
+      (λ k part stands some none. places.stays k (covers.waits k part stands some none)) part_rests stale_only_again held_again
 
 -- a machine covers the graph again
 pub placing_keeps_cover : PlacingKeepsCover

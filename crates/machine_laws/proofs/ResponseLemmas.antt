@@ -115,6 +115,36 @@ module _ (g : GraphData) (wired : IsWired g) (m : MachineData) (fits : FitsGraph
       let same = fits.covers.apart given.k k node (HasMember-from_Gives m.parts m.state given.k node value given.gives) has in
       unmarked (subst (IsMarked m.marks) same given.marked)
 
+  -- a member of a group that is stepped by vicinities moves to its steady state in any step in which it takes that state if it is awake, and stays if not: for
+  -- then it has it
+  pub MovesTo-held : (joining : Bool) (new : List Tern) → ((node : ℕ) (value : Tern) → IsAwakeIn m.wide m.state node → IsResponse (graph_in m.wide) m.state node value →
+      state_at new node ≡ after joining (state_at m.state node) value) → (wide : WideData) → m.wide ≡ Some wide → (k node : ℕ) → HasMember m.parts k node →
+      IsStale m.parts k → node < nodes g → ((¬ IsAwakeIn m.wide m.state node) → state_at new node ≡ state_at m.state node) → MovesTo g joining m.state new node
+  MovesTo-held joining new takes wide is k node has stale in_range stays =
+      let held = held_at g m fits wide is k stale.part stale.stands stale.some stale.none in
+      let part = same_part m.parts k has.part stale.part has.stands stale.stands in
+      let at_place : IsMemberAt stale.part has.place node = subst (λ p. IsMemberAt p has.place node) part has.member in
+      let member = member_in_group g held.group stale.part held.is_part has.place node at_place in
+      let step = exists g wired m.state in
+      let value = state_at step.0 node in
+      let response : IsResponse g m.state node value = step.1.each node in_range in
+      let there = response_there g wide.graph held.group m.state wired held.wired held.alike node member value response in
+      let awake_moves : IsAwake wide.graph m.state wide.touched.list node → state_at new node ≡ after joining (state_at m.state node) value =
+      λ awake. takes node value (subst (λ w. IsAwakeIn w m.state node) (sym is) awake)
+      (subst (λ w. IsResponse (graph_in w) m.state node value) (sym is) there) in
+      let asleep_moves : ¬ IsAwake wide.graph m.state wide.touched.list node → state_at new node ≡ after joining (state_at m.state node) value =
+      λ asleep.
+      let same : state_at m.state node ≡ value =
+      response_is_unique wide.graph m.state node (state_at m.state node) value (held.rests node member asleep) there in
+      stays (λ awake. asleep (subst (λ w. IsAwakeIn w m.state node) is awake))
+      ∙ (sym (after-same joining (state_at m.state node)) ∙ ap (after joining (state_at m.state node)) same) in
+      record {
+        value = value;
+        response = response;
+        moves = same_tern (state_at new node) (after joining (state_at m.state node) value)
+            (λ differs. differs (asleep_moves (λ awake. differs (awake_moves awake))));
+      }
+
   module _ (joining : Bool) (new : List Tern) (moves : MovesIn joining m.parts m.marks m.wide m.state new) where
     -- an input node stays
     pub input_stays : (node : ℕ) → level_of g node ≡ INPUT_LEVEL → state_at new node ≡ state_at m.state node
@@ -148,39 +178,11 @@ module _ (g : GraphData) (wired : IsWired g) (m : MachineData) (fits : FitsGraph
         state_at new node ≡ state_at m.state node
     stale_stays k node has stale = moves.stays node (nothing_to_stale k node has stale)
 
-    -- a member of a group that is stepped by vicinities moves to its steady state: if it is awake it takes it, and if not it has it
-    MovesTo-held : (wide : WideData) → m.wide ≡ Some wide → (k node : ℕ) → HasMember m.parts k node → IsStale m.parts k → node < nodes g →
-        MovesTo g joining m.state new node
-    MovesTo-held wide is k node has stale in_range =
-        let held = held_at g m fits wide is k stale.part stale.stands stale.some stale.none in
-        let part = same_part m.parts k has.part stale.part has.stands stale.stands in
-        let at_place : IsMemberAt stale.part has.place node = subst (λ p. IsMemberAt p has.place node) part has.member in
-        let member = member_in_group g held.group stale.part held.is_part has.place node at_place in
-        let step = exists g wired m.state in
-        let value = state_at step.0 node in
-        let response : IsResponse g m.state node value = step.1.each node in_range in
-        let there = response_there g wide.graph held.group m.state wired held.wired held.alike node member value response in
-        let awake_moves : IsAwake wide.graph m.state wide.touched.list node → state_at new node ≡ after joining (state_at m.state node) value =
-        λ awake. moves.awake node value (subst (λ w. IsAwakeIn w m.state node) (sym is) awake)
-        (subst (λ w. IsResponse (graph_in w) m.state node value) (sym is) there) in
-        let asleep_moves : ¬ IsAwake wide.graph m.state wide.touched.list node → state_at new node ≡ after joining (state_at m.state node) value =
-        λ asleep.
-        let same : state_at m.state node ≡ value =
-        response_is_unique wide.graph m.state node (state_at m.state node) value (held.rests node member asleep) there in
-        stale_stays k node has stale (λ awake. asleep (subst (λ w. IsAwakeIn w m.state node) is awake))
-        ∙ (sym (after-same joining (state_at m.state node)) ∙ ap (after joining (state_at m.state node)) same) in
-        record {
-          value = value;
-          response = response;
-          moves = same_tern (state_at new node) (after joining (state_at m.state node) value)
-              (λ differs. differs (asleep_moves (λ awake. differs (awake_moves awake))));
-        }
-
     -- a member of a stale part moves so, since such groups are known
     MovesTo-stale : (k node : ℕ) → HasMember m.parts k node → IsStale m.parts k → node < nodes g → MovesTo g joining m.state new node
     MovesTo-stale k node has stale in_range =
         let (wide, is, held) = fits.coded k stale.part stale.stands stale.some stale.none in
-        MovesTo-held wide is k node has stale in_range
+        MovesTo-held joining new moves.awake wide is k node has stale in_range (stale_stays k node has stale)
 
     -- a member of a marked part moves to what the part's code gives
     MovesTo-coded : (k node : ℕ) (has : HasMember m.parts k node) → IsMarked m.marks k → (code : Rc CodeData Global) → has.part.code ≡ Some code →

@@ -2,3 +2,4 @@ pub mod Machines
 pub mod Stages
 pub mod Held
 pub mod Laws
+pub mod Words

@@ -1,19 +1,10 @@
 //! What a stage's machine does: it takes states that are set, unit steps, and phases that end at rest.
 
-ghost use Rattle.std.specs.Prelude.{◌≡◌, ◌≢◌, ◌<◌, ◌≤◌, false, List, length, slice_set};
-ghost use Rattle.ternary.specs.declared.tern.Tern.{Tern};
+ghost use Rattle.std.specs.Prelude.{◌≡◌, ◌≢◌, ◌<◌, ◌≤◌, false, length, slice_set};
+ghost use Rattle.machine_stage.specs.Words.{raised, RAILS, IsStep, ListsChanges, SteppingThrough, Settles, Advances, IsAtRest};
+ghost use Rattle.machine_stage.specs.Words.{FitsGraph, nodes_told, PhaseThrough, SeesStates};
 ghost use Rattle.std.specs.Bool.{OnTrue, OnFalse};
-ghost use Rattle.ternary.specs.Counts.{raised};
-ghost use Rattle.switch_paths.specs.declared.TheConstants.{RAILS};
-ghost use Rattle.switch_paths.specs.Step.{IsStep};
-ghost use Rattle.settling.specs.Moved.{ListsChanges};
-ghost use Rattle.settling.specs.Passing.{SteppingThrough};
-ghost use Rattle.settling.specs.Settling.{Settles};
-ghost use Rattle.machine_laws.specs.Machines.{Advances, IsAtRest};
-ghost use Rattle.machine_laws.specs.Fitting.{FitsGraph};
-ghost use Rattle.unit_step.specs.Listing.{nodes_told};
 ghost use Rattle.machine_stage.specs.Machines.{without_room};
-ghost use Rattle.column_stage.specs.Seeing.{PhaseThrough, SeesStates};
 ghost use Rattle.machine_stage.specs.Stages.{PutsNode, TakesStep, TakesPhase};
 
 use settling::{MOST_LIMIT, Onlooker, Settled, settle_seen, unfailing};
@@ -21,7 +12,7 @@ use std::marker::Brand;
 use std::sync::ledger::{Blank, Ledger};
 use switch_paths::Graph;
 use ternary::{Steps, Tern};
-use unit_step::{Machine, Watched};
+use unit_step::{Machine, Watched, show};
 
 /// Gives a node that is no rail this state.
 pub(crate) fn place(machine: &mut Machine, graph: &Graph, node: usize, value: Tern)
@@ -45,16 +36,6 @@ pub fn take_step<O: Onlooker>(machine: &mut Machine, graph: &Graph, onlooker: &m
     if step_uncounted::<Brand>(machine, graph, Blank::new(1), &mut changed) {
         show(machine, &mut changed, onlooker);
     }
-}
-
-// Shows the machine's state, which differs at listed nodes alone from one that is known.
-fn show<O: Onlooker>(machine: &mut Machine, changed: &mut Option<Vec<usize>>, onlooker: &mut O)
-    requires { (old : List Tern) × O.knows onlooker.old old × ListsChanges (nodes_told changed.old (length machine.old.state)) old machine.old.state }
-    ensures same { machine.new ≡ machine.old }
-    ensures seen { O.seen onlooker.new ≡ O.see (O.seen onlooker.old) machine.old.state }
-    ensures knows { O.knows onlooker.new machine.old.state }
-{
-    unfailing(onlooker.see(&Watched { machine, changed }));
 }
 
 /// Settles in a graph that the machine fits, and shows each state that it passes through. If it comes to rest in time,

@@ -1,13 +1,7 @@
 //! What an edit of the graph does to a stage's state and its machine.
 
 ghost use Rattle.std.specs.Prelude.{◌≡◌, ◌≢◌, ◌↔◌, ◌+◌, ◌≤◌, true, length, IfSome, IfOk, IfErr};
-ghost use Rattle.switch_paths.specs.Graphs.{nodes, IsWired};
-ghost use Rattle.channel_groups.specs.Changes.{undo};
-ghost use Rattle.machine_laws.specs.Fitting.{Covers};
-ghost use Rattle.group_analysis.specs.Using.{used_texts};
-ghost use Rattle.analysis_cache.specs.Keeping.{texts_of};
-ghost use Rattle.machine_laws.specs.Editing.{with_new_nodes, Edits};
-ghost use Rattle.column_stage.specs.Columns.{AreAmong};
+ghost use Rattle.machine_stage.specs.Words.{nodes, IsWired, undo, Covers, used_texts, texts_of, with_new_nodes, Edits, AreAmong};
 ghost use Rattle.machine_stage.specs.Machines.{kept_in, last_in};
 ghost use Rattle.machine_stage.specs.Stages.{EditsFrom};
 ghost use Rattle.machine_stage.specs.Held.{state_held, machine_held, spare_held, IsSparse};

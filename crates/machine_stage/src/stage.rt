@@ -1,20 +1,9 @@
 //! The state of a circuit's nodes, and the machine that moves it, if there is one.
 
 ghost use Rattle.std.specs.Prelude.{◌≡◌, ◌+◌, ◌<◌, ◌≤◌, ◌⊎◌, true, None, Some, Err, is_some, length, count_by, option_map, slice_set, IfSome, IfOk, IfErr, OnOk, OnErr};
-ghost use Rattle.switch_paths.specs.declared.TheConstants.{RAILS};
-ghost use Rattle.switch_paths.specs.Graphs.{nodes, IsWired};
-ghost use Rattle.switch_paths.specs.Rails.{IsRailed, IsSound};
-ghost use Rattle.settling.specs.Passing.{SteppingThrough};
-ghost use Rattle.channel_groups.specs.Changes.{undo};
-ghost use Rattle.analysis_cache.specs.Keeping.{texts_of, IsGrown};
-ghost use Rattle.circuit_texts.specs.Sizes.{TellsRefused};
-ghost use Rattle.circuit_texts.specs.Building.{Builds, IsCutOff};
-ghost use Rattle.unit_step.specs.declared.editing.TheConstants.{NEW_NODES};
-ghost use Rattle.machine_parts.specs.Parts.{has_members};
-ghost use Rattle.machine_laws.specs.Fitting.{Covers};
-ghost use Rattle.machine_laws.specs.Editing.{with_new_nodes};
-ghost use Rattle.column_stage.specs.Columns.{AreAmong};
-ghost use Rattle.column_stage.specs.Seeing.{PhaseThrough, SeesStates};
+ghost use Rattle.machine_stage.specs.Words.{RAILS, nodes, IsWired, IsRailed, IsSound, SteppingThrough, undo, texts_of, IsGrown};
+ghost use Rattle.machine_stage.specs.Words.{TellsRefused, Builds, IsCutOff, NEW_NODES, has_members, Covers, with_new_nodes, AreAmong};
+ghost use Rattle.machine_stage.specs.Words.{PhaseThrough, SeesStates};
 ghost use Rattle.machine_stage.specs.Machines.{Serves, FitsIn, kept_in, last_in, without_room};
 ghost use Rattle.machine_stage.specs.Stages.{PutsIn, MovesBy, TakesStep, TakesPhase, EditsFrom, BuiltFrom};
 

@@ -15,6 +15,7 @@ use Rattle.machine_parts.specs.Stepping.{Concerns}
 use Rattle.machine_parts.proofs.SetMarks.{marked-set, marked-stays}
 use Rattle.machine_laws.specs.Machines.{MachineData, Places}
 use Rattle.machine_laws.specs.Fitting.{Covers, FitsGraph}
+use Rattle.machine_laws.proofs.FittingLemmas.{covers_with}
 use Rattle.machine_laws.proofs.PlacingLemmas.{Places-beside}
 use Rattle.vicinity.specs.Wides.{WideData}
 use Rattle.wide_groups.specs.Moving.{PlacesIn}
@@ -93,25 +94,10 @@ GivesBelow-more g state node old mid new below one = record {
 -- with more marks a machine covers the graph, whatever was counted
 more_marks_cover : (g : GraphData) (m : MachineData) (marks : List Bool) (moved placed : ℕ) → Covers g m → ((k : ℕ) → IsMarked m.marks k → IsMarked marks k) →
     Covers g (record m { marks = marks; moves = moved; placed = placed })
-more_marks_cover g m marks moved placed covers more = record {
-  groups = covers.groups;
-  kept = covers.kept;
-  are = covers.are;
-  counted = covers.counted;
-  each = covers.each;
-  whole = covers.whole;
-  apart = covers.apart;
-  number = covers.number;
-  known = covers.known;
-  numbered = covers.numbered;
-  textless = covers.textless;
-  uses_counted = covers.uses_counted;
-  quiet = covers.quiet;
-  waits = λ k part stands some none. more k (covers.waits k part stands some none);
-  rests = λ k part stands unmarked. covers.rests k part stands (λ marked. unmarked (more k marked));
-  stale_only = covers.stale_only;
-  held = covers.held;
-}
+more_marks_cover g m marks moved placed covers more =
+    covers_with g m covers marks m.state m.last moved placed m.spare m.wide covers.counted
+    (λ k part stands some none. more k (covers.waits k part stands some none))
+    (λ k part stands unmarked. covers.rests k part stands (λ marked. unmarked (more k marked))) covers.stale_only covers.held
 
 -- and fits it
 more_marks_fit : (g : GraphData) (m : MachineData) (marks : List Bool) (moved placed : ℕ) → FitsGraph g m → ((k : ℕ) → IsMarked m.marks k → IsMarked marks k) →

@@ -6,6 +6,7 @@ use Rattle.std.proofs.lemmas.Bool.{cases_Bool}
 use Rattle.std.proofs.lemmas.List.Elements.{All-nil}
 use Rattle.std.proofs.lemmas.Option.{slice_get_read, slice_get-get_or, get_or_from_slice_get}
 use Rattle.switch_paths.specs.Graphs.{GraphData}
+use Rattle.switch_paths.specs.Rails.{IsRailed, IsSound}
 use Rattle.group_meaning.specs.Groups.{Group, id_of}
 use Rattle.group_meaning.proofs.UniqueGroups.{unique}
 use Rattle.group_text.specs.Texts.{GroupTextData}
@@ -21,20 +22,22 @@ use Rattle.machine_parts.specs.declared.part.MachinePart.{MachinePart}
 use Rattle.machine_parts.specs.Parts.{Stands, IsStale}
 use Rattle.machine_laws.specs.Machines.{MachineData, groups_in}
 use Rattle.machine_laws.specs.Fitting.{IsPartOf, Covers, AreTold, AreUntold, IsKeptBy}
+use Rattle.machine_laws.specs.Editing.{MakesReady, StaysKnown}
 use Rattle.machine_laws.specs.Columns.{HasNoTexts}
 use Rattle.machine_laws.specs.Finishing.{HasText, AreWaiting}
 use Rattle.machine_laws.proofs.FilterLemmas.{filter_keeps}
 use Rattle.machine_laws.proofs.HeldLemmas.{known_or_not}
 use Rattle.machine_laws.proofs.KeptLemmas.{group_there}
 use Rattle.machine_laws.proofs.PartGroups.{some_members}
-use Rattle.machine_laws.proofs.FinishingWaiting.{first_is}
+use Rattle.machine_laws.proofs.FinishingWaiting.{text_there, first_is}
 use Rattle.machine_laws.proofs.FinishingBuilds.{waiting_texts}
-use Rattle.unit_step.specs.Holding.{IsPassed, HoldsAll}
+use Rattle.unit_step.specs.Holding.{IsPassed, HoldsAll, wide_after}
 use Rattle.unit_step.specs.declared.waking.Risen.{Risen}
 use Rattle.unit_step.specs.Waking.{AreDue, HaveCode, IsRisen, Wakes}
 use Rattle.unit_step.proofs.DueLemmas.{passed_told}
 use Rattle.unit_step.proofs.FinishingFits.{IsReady-covered}
-use Rattle.unit_step.proofs.HoldingLemmas.{same_group}
+use Rattle.unit_step.proofs.FinishingOrder.{MakesReady-next}
+use Rattle.unit_step.proofs.HoldingLemmas.{same_group, StaysKnown-next}
 
 -- no item passes the test that none passes
 none_pass : {X : Type 0} (xs : List X) → [] ≡ filter (λ (_ : X). false) xs
@@ -144,20 +147,8 @@ module _ (g : GraphData) (m : MachineData) (covers : Covers g m) (large : ℕ) (
   }
     where
       has_one : (group : Group) → Contains covers.groups.groups group → false ≡ false → fault_in group ≡ None → HasText g m.parts m.uses group
-      has_one group (i, inside, here) waits fits =
-          let all = covers.groups.groups in
-          let has = covers.each i group (slice_get_read all (length all) i group refl inside (sym here)) in
-          record {
-            k = has.k;
-            part = has.part;
-            stands = has.stands;
-            is_part = has.is_part;
-            numbered =
-                elim (known_or_not has.part.code) [
-                  | inl (code, is) ↦ covers.numbered has.k has.part has.stands (some_members has.is_part) (λ none. absurd (cc (none, is)))
-                  | inr none ↦ have_texts has.k has.part group has.stands none has.is_part fits
-                ];
-          }
+      has_one group there waits fits =
+          text_there g m covers group there (λ k part stands none is_part. have_texts k part group stands none is_part fits)
 
   -- so nothing is analysed
   pub Fills-none : NoneRefused large g → (kept : List GroupTextData) → IsKeptBy g kept m → (before : List GroupTextData) →
@@ -170,6 +161,15 @@ module _ (g : GraphData) (m : MachineData) (covers : Covers g m) (large : ℕ) (
     analysed = sym (append-nil before);
     number = refl;
   }
+
+  -- the machine is ready once only the bound was lowered
+  pub MakesReady-none : m.texts ≡ count_distinct m.uses → NoneRefused large g → IsRailed g → IsSound m.state → (new : MachineData) →
+      new ≡ record m { wide = wide_after large m.wide None } → MakesReady g m new
+  MakesReady-none texts few railed sound new is = MakesReady-next large g m m new [] None covers (Wakes-none texts) few railed sound all_held is
+
+  -- and what is known of the groups that are stepped by vicinities stays
+  pub StaysKnown-none : m.texts ≡ count_distinct m.uses → (new : MachineData) → new ≡ record m { wide = wide_after large m.wide None } → StaysKnown large m new
+  StaysKnown-none texts new is = StaysKnown-next g m m [] covers (Wakes-none texts) large None new all_held is
 
 -- where all get their codes that are due, and no stale part had a text, only the groups without a text are stale
 pub woken_untold : (g : GraphData) (old mid : MachineData) (risen : Risen) → Covers g old → IsRisen g old risen → Wakes g risen.coded.items old mid →

@@ -9,3 +9,4 @@ pub mod Remarking
 pub mod Beside
 pub mod Among
 pub mod Columns
+pub mod Words

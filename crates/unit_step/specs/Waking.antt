@@ -3,7 +3,7 @@ use Rattle.std.specs.Prelude.{◌≡◌, ◌≢◌, ℕ, ◌<◌, ◌⊎◌, ◌
 use Rattle.std.specs.List.{AllZip}
 use Rattle.switch_paths.specs.Graphs.{GraphData, nodes}
 use Rattle.group_meaning.specs.Groups.{Group, AreGroups, id_of}
-use Rattle.group_text.specs.Texts.{text_of_group, local_nodes}
+use Rattle.group_text.specs.Texts.{GroupTextData, text_of_group, local_nodes}
 use Rattle.circuit_texts.specs.declared.sizes.GroupSizes.{GroupSizes}
 use Rattle.circuit_texts.specs.Sizes.{fault_in}
 use Rattle.channel_groups.specs.Grouping.{IsId}
@@ -50,27 +50,28 @@ pub record AreMade (g : GraphData) (some : List Group) (slots : List ℕ) (old f
   pub long : length some ≡ length slots
   pub inside : All (λ k. k < length old) slots
 
--- what is found of those groups that have a text and whose parts wait: the numbers of the parts, and for each of these groups its text, the
--- nodes that the text's local nodes stand for, and the nodes that it reads
-pub record IsWaking (g : GraphData) (m : MachineData) (waking : Waking) : Type 0 where
+-- those groups that have a text and whose parts wait: the numbers of the parts, and the texts
+pub record AreOfWaiting (g : GraphData) (m : MachineData) (slots : List ℕ) (told : List GroupTextData) : Type 0 where
   pub groups : List Group
   pub are : AreGroups g groups
   pub some : List Group
-  pub waiting : AreWaiting g m.parts m.uses groups some waking.slots.items
+  pub waiting : AreWaiting g m.parts m.uses groups some slots
   pub fit : All (λ group. fault_in group ≡ None) some
-  pub texts : waking.texts.items ≡ map (text_of_group g) some
+  pub texts : told ≡ map (text_of_group g) some
+
+-- what is found of them: the numbers of their parts, and for each its text, the nodes that the text's local nodes stand for, and the nodes that it
+-- reads
+pub record IsWaking (g : GraphData) (m : MachineData) (waking : Waking) : Type 0 where
+  pub of : AreOfWaiting g m waking.slots.items waking.texts.items
+  pub open of use *
   pub maps : map (λ nodes. nodes.items) waking.maps.items ≡ map (local_nodes g) some
   pub reads : AllZip (λ group list. AreReads g group list.items) some waking.reads.items
 
 -- what the parts of those groups become: those that are to have no code read nothing, and none gets code whose group is stepped by vicinities. The
 -- last list has the slots of those that get it
 pub record IsRisen (g : GraphData) (m : MachineData) (risen : Risen) : Type 0 where
-  pub groups : List Group
-  pub are : AreGroups g groups
-  pub some : List Group
-  pub waiting : AreWaiting g m.parts m.uses groups some risen.slots.items
-  pub fit : All (λ group. fault_in group ≡ None) some
-  pub texts : risen.texts.items ≡ map (text_of_group g) some
+  pub of : AreOfWaiting g m risen.slots.items risen.texts.items
+  pub open of use *
   pub made : AreMade g some risen.slots.items m.parts risen.parts.items (nodes g)
   pub coded : (k : ℕ) → Contains risen.coded.items k ↔ HasCodeIn risen.slots.items risen.parts.items k
   pub free : LoosensHeld m.wide risen.parts.items

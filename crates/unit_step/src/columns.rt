@@ -3,15 +3,8 @@
 ghost use Rattle.std.specs.Prelude.{◌≡◌, ℕ, ◌*◌, ◌+◌, ◌<◌, ◌≤◌, ◌↔◌, List, Some, length, map, take, All, Contains};
 ghost use Rattle.std.specs.Bool.{OnTrue};
 ghost use Rattle.std.specs.List.{sum_by};
-ghost use Rattle.ternary.specs.declared.tern.Tern.{Tern};
-ghost use Rattle.switch_paths.specs.Switching.{state_at};
-ghost use Rattle.straight_code.specs.Code.{code_value};
-ghost use Rattle.word_columns.specs.Columns.{AreRailsIn};
-ghost use Rattle.circuit_texts.specs.Sizes.{AllFit};
-ghost use Rattle.machine_parts.specs.declared.part.MachinePart.{MachinePart};
+ghost use Rattle.unit_step.specs.Words.{Tern, state_at, code_value, AreRailsIn, AllFit, MachinePart, rooms, AreSeated, Covers};
 ghost use Rattle.machine_parts.specs.Words.{AreApart, HasMember, IsSeated, ReadsAt, Stands, members_of};
-ghost use Rattle.part_steps.specs.Workspaces.{rooms};
-ghost use Rattle.machine_laws.specs.Words.{AreSeated, Covers};
 ghost use Rattle.unit_step.specs.Columns.{GivesWords};
 
 use crate::machine::Machine;

@@ -4,11 +4,7 @@ ghost use Rattle.std.specs.Bool.{OnTrue, OnFalse};
 ghost use Rattle.std.specs.List.Sorted.{IsNonDecreasing};
 ghost use Rattle.switch_paths.specs.Graphs.{nodes};
 ghost use Rattle.machine_parts.specs.Words.{IsMarked, MarksAll};
-ghost use Rattle.vicinity.specs.NodeSets.{IsIn};
-ghost use Rattle.wide_groups.specs.Awake.{HoldsWide};
-ghost use Rattle.wide_groups.specs.Moving.{graph_in};
-ghost use Rattle.wide_groups.specs.Staying.{GrowsIn, HoldsNode, lowered};
-ghost use Rattle.machine_laws.specs.Finishing.{first_node};
+ghost use Rattle.unit_step.specs.Words.{IsIn, HoldsWide, graph_in, GrowsIn, HoldsNode, lowered, first_node};
 ghost use Rattle.unit_step.specs.Holding.{HasNodes, HoldsParts, IsOfThese, wide_after, wide_in, room_in};
 
 use crate::long::add_if;

@@ -58,4 +58,4 @@ pub use machine_laws::{
 };
 pub use machine_parts::MachinePart;
 pub use part_steps::{Needs, needs_of, numbers_below};
-pub use watching::Watched;
+pub use watching::{Watched, show};

@@ -90,8 +90,9 @@ pub(crate) fn long_texts(
     Ok(fresh)
 }
 
-// Takes their code from these parts as `loosen_waking` does, unless all are to have theirs and no group is stepped by
-// vicinities.
+// Takes their code from these parts, which have these texts, if it is long and isn't that of many, or if the part that
+// stands in the slot is stepped by vicinities already; but from none if all are to have theirs and no group is stepped by
+// vicinities. With them come the texts of `fresh`.
 pub(crate) fn loosen_unless_all(
     alloc: Global,
     codes: Codes,
@@ -110,7 +111,10 @@ pub(crate) fn loosen_unless_all(
     if have_all(codes, wide) {
         return;
     }
-    loosen_waking(alloc, wide, uses, fresh, texts, parts);
+    for place in 0..parts.len() {
+        let loose = goes_without(&parts[place], &texts[place], wide, uses, fresh);
+        loosen_if(alloc, loose, &mut parts[place]);
+    }
 }
 
 // Whether all parts are to have their codes and no group is stepped by vicinities.
@@ -130,27 +134,6 @@ fn are_all(codes: Codes) -> bool
     match codes {
         Codes::All => true,
         Codes::Short => false,
-    }
-}
-
-// Takes their code from these parts, which have these texts, if it is long and isn't that of many, or if the part that
-// stands in the slot is stepped by vicinities already. With them come the texts of `fresh`.
-fn loosen_waking(
-    alloc: Global,
-    wide: &Option<Wide>,
-    uses: &TextUses,
-    fresh: &TextUses,
-    texts: &[GroupText],
-    parts: &mut [MachinePart],
-)
-    requires texts { length texts.now ≡ length parts.old }
-    requires some { All (λ part. 0 < length part.map.items) parts.old }
-    ensures loosens { Loosens parts.old parts.new }
-    ensures held { LoosensHeld wide.now parts.new }
-{
-    for place in 0..parts.len() {
-        let loose = goes_without(&parts[place], &texts[place], wide, uses, fresh);
-        loosen_if(alloc, loose, &mut parts[place]);
     }
 }
 

@@ -1,20 +1,16 @@
 //! The machine.
 ghost use Rattle.std.specs.Prelude.{◌≡◌, ◌≢◌, ℕ, Bool, List, [], ◌-◌, vec_len, vec_capacity, ◌+◌, ◌^◌, ◌<◌, ◌≤◌, ◌⊎◌, true, false, length, count_by, option_map, All, None, Some, Err, IsTrue, is_some, IfSome, IfNone, IfOk, IfErr, OnOk, OnErr, if◌then◌else◌};
 ghost use Rattle.std.specs.Bool.{OnTrue, OnFalse};
-ghost use Rattle.ternary.specs.Counts.{raised};
-ghost use Rattle.switch_paths.specs.declared.TheConstants.{RAILS};
+ghost use Rattle.unit_step.specs.Words.{raised, RAILS, ListsChanges, IsJoinStep, StaysOrBecomesX, HasLast, AreSeated, Advances, Places};
+ghost use Rattle.unit_step.specs.Words.{Covers, FitsGraph, IsWorked};
 ghost use Rattle.switch_paths.specs.Words.{GraphData, nodes, IsRailed, IsSound, IsStep};
-ghost use Rattle.settling.specs.Moved.{ListsChanges};
-ghost use Rattle.settling.specs.Settling.{IsJoinStep, StaysOrBecomesX};
 ghost use Rattle.analysis_cache.specs.Words.{texts_of, IsGrown, HoldsKept, HoldsNearlyKept};
 ghost use Rattle.group_text.specs.Words.{GroupTextData, is_among};
 ghost use Rattle.group_analysis.specs.Using.{used_texts};
-ghost use Rattle.machine_laws.specs.Words.{HasLast, AreSeated, Advances, Places, Covers, FitsGraph};
 ghost use Rattle.circuit_texts.specs.Words.{TellsRefused, Builds, IsCutOff};
 ghost use Rattle.machine_parts.specs.Words.{HasMember, ReadsAt, AreApart, has_members, count_marked, marked_sum, instructions_of, MarksAll};
 ghost use Rattle.unit_step.specs.Bodies.{CanStart, of_body, fixed_of};
 ghost use Rattle.unit_step.specs.Listing.{nodes_told};
-ghost use Rattle.wide_groups.specs.Awake.{IsWorked};
 
 use crate::body::Body;
 use crate::last_texts::LastTexts;
@@ -26,8 +22,9 @@ use channel_groups::Groups;
 use circuit_texts::BuildFault;
 use kept_parts::TextUses;
 use machine_parts::MachinePart;
-use part_steps::{Agenda, DenseParts, ReaderLists, Workspace, advance, mark_all};
-use settling::{Recall, Stepper};
+use part_advance::advance;
+use part_steps::{Agenda, DenseParts, ReaderLists, Workspace, mark_all};
+use settling::{Recall, Stepper, moves_after, moves_raised};
 use std::alloc::Global;
 use std::marker::Model;
 use std::sync::ledger::Ledger;
@@ -48,13 +45,8 @@ pub struct Machine {
 
 impl Model for Machine {
     ghost use Rattle.std.specs.Prelude.{◌-◌, length, vec_len, vec_capacity};
-    ghost use Rattle.kept_parts.specs.Uses.{texts_used, count_distinct};
-    ghost use Rattle.machine_laws.specs.Machines.{MachineData};
-    ghost use Rattle.part_steps.specs.Workspaces.{rooms};
-    ghost use Rattle.machine_parts.specs.Running.{IsMachine};
-    ghost use Rattle.part_steps.specs.Dense.{AreDense};
     ghost use Rattle.unit_step.specs.LastTexts.{AreLastTexts, texts_of_last};
-    ghost use Rattle.wide_groups.specs.Awake.{HoldsWide};
+    ghost use Rattle.unit_step.specs.Words.{texts_used, count_distinct, MachineData, rooms, IsMachine, AreDense, HoldsWide};
     ghost use Rattle.run_beside.specs.Near.{AreNearIn};
 
     ghost Value = { MachineData };
@@ -461,21 +453,6 @@ impl Stepper for Machine {
     {
         self.join_step_listed(graph, steps, &mut None)
     }
-}
-
-// The number of moves after a step that changed the state, or didn't.
-fn moves_after(moves: u64, changed: bool) -> u64
-    ensures moved { OnTrue changed (result ≡ raised moves 1) }
-    ensures rested { OnFalse changed (result ≡ moves) }
-{
-    moves.saturating_add(u64::from(changed))
-}
-
-// The number of moves after so many steps more that changed the state.
-fn moves_raised(moves: u64, count: u64) -> u64
-    ensures { result ≡ raised moves count }
-{
-    moves.saturating_add(count)
 }
 
 // The number of placed members after a node was placed that this part owns, if one does.

@@ -1,9 +1,7 @@
 //! What is found of the parts that wait before they get their codes.
 ghost use Rattle.std.specs.Prelude.{◌≡◌, ◌≢◌, ℕ, ◌<◌, ◌⊎◌, ◌↔◌, None, Some, [], true, length, map, All, Contains, IfOk, OnOk, slice_index_or};
 ghost use Rattle.std.specs.List.Sorted.{IsStrictlyIncreasing};
-ghost use Rattle.channel_groups.specs.Grouping.{AreOf, IsId};
-ghost use Rattle.machine_parts.specs.Marking.{IsMarked};
-ghost use Rattle.machine_laws.specs.Finishing.{first_node};
+ghost use Rattle.unit_step.specs.Words.{AreOf, IsId, IsMarked, first_node};
 ghost use Rattle.unit_step.specs.Holding.{IsPassed};
 ghost use Rattle.unit_step.specs.Waking.{AddsUnlessPassed};
 

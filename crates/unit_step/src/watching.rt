@@ -1,13 +1,15 @@
 //! The machine under the eyes of an observer.
-ghost use Rattle.std.specs.Prelude.{Bool, List, length};
+ghost use Rattle.std.specs.Prelude.{◌≡◌, Bool, List, length};
 ghost use Rattle.std.specs.Borrow.{GName};
+ghost use Rattle.ternary.specs.declared.tern.Tern.{Tern};
+ghost use Rattle.settling.specs.Moved.{ListsChanges};
 ghost use Rattle.group_text.specs.Words.{GroupTextData};
 ghost use Rattle.machine_laws.specs.Words.{FitsGraph};
 ghost use Rattle.unit_step.specs.Bodies.{fixed_of};
 ghost use Rattle.unit_step.specs.Listing.{nodes_told};
 
 use crate::machine::Machine;
-use settling::{Moved, SeenStepper};
+use settling::{Moved, Onlooker, SeenStepper, unfailing};
 use std::sync::ledger::Ledger;
 use switch_paths::Graph;
 use ternary::{Steps, Tern};
@@ -67,4 +69,15 @@ impl SeenStepper for Watched<'_> {
     fn join_step<L: Ledger>(&mut self, graph: &Graph, steps: &mut Steps<L>) -> bool {
         self.machine.join_step_listed(graph, steps, self.changed)
     }
+}
+
+/// Shows the machine's state, which differs at listed nodes alone from one that is known.
+pub fn show<O: Onlooker>(machine: &mut Machine, changed: &mut Option<Vec<usize>>, onlooker: &mut O)
+    requires { (old : List Tern) × O.knows onlooker.old old × ListsChanges (nodes_told changed.old (length machine.old.state)) old machine.old.state }
+    ensures same { machine.new ≡ machine.old }
+    ensures list { changed.new ≡ changed.old }
+    ensures seen { O.seen onlooker.new ≡ O.see (O.seen onlooker.old) machine.old.state }
+    ensures knows { O.knows onlooker.new machine.old.state }
+{
+    unfailing(onlooker.see(&Watched { machine, changed }));
 }

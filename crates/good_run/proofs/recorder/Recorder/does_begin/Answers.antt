@@ -1,23 +1,15 @@
 -- What the look says, the noted state says.
-use Rattle.std.proofs.Common.{false, length, sym, ap, ◌∙◌, arith}
+use Rattle.std.proofs.Common.{false, length, sym, ap, ◌∙◌}
 use Rattle.std.specs.Prelude.{map, slice_index_or}
-use Rattle.std.proofs.lemmas.List.{length-map}
 use Rattle.good_run.specs.declared.look.Look.{Look}
 use Rattle.good_run.specs.Recording.{RunData}
-use Rattle.good_run.specs.Looks.{shown_at}
-use Rattle.good_run.proofs.LookLemmas.{begins_same}
+use Rattle.good_run.proofs.LookLemmas.{shown_look, begins_same}
 use Rattle.good_run.proofs.recorder.Recorder.does_begin.Goals as goal
 
 pub begins_of-requires : goal.begins_of-requires
 begins_of-requires c =
     let i = c.self.inside in
-    omega (
-      arith,
-      c.requires,
-      ap (λ (run : RunData). length run.shown) c.self.view_is,
-      length-map i.looks.items (shown_at i.start.items i.changes.items),
-      ap length c.deref.ensures.value,
-    )
+    shown_look i.start.items i.changes.items i.looks.items _ c.args.at _ c.requires (ap (λ (run : RunData). length run.shown) c.self.view_is) c.deref.ensures.value
 
 pub returns : goal.returns
 returns c =

@@ -34,29 +34,29 @@ parts_made c =
     AreMade-held g c.graphs_are_wired.ensures waking.groups waking.some c.args.waking.slots.items m.parts m.uses waking.are waking.waiting parts
     c.args.waking.reads.items c.in_ok-parts.parts.items (length m.state) of waking.reads c.in_ok-parts.ensures c.requires.covers.counted
 
+-- there are as many texts as slots
+texts_long : (c : In_ok-parts) → length c.args.waking.texts.items ≡ length c.args.waking.slots.items
+texts_long c = ap length c.requires.waking.texts ∙ length-map c.requires.waking.some (text_of_group c.args.graph.now) ∙ (parts_made c).long
+
 pub long_texts-requires : goal.long_texts-requires
 long_texts-requires c =
-    let made = parts_made (goal.at.long_texts-requires c).In_ok-parts in
-    let waking = c.requires.waking in
-    let texts_long : length c.args.waking.texts.items ≡ length c.args.waking.slots.items =
-    ap length waking.texts ∙ length-map waking.some (text_of_group c.args.graph.now) ∙ made.long in
+    let at = (goal.at.long_texts-requires c).In_ok-parts in
+    let made = parts_made at in
     let counted : length c.args.self.now.parts ≤ length c.self.inside.body.uses.numbers =
     subst (λ (m : MachineData). length m.parts ≤ length c.self.inside.body.uses.numbers) c.self.view_is c.self.invariant.0.numbered in
     rw (c.deref-2.ensures.value, c.deref-3.ensures.value, c.deref-4.ensures.value) (record {
       slots = sym made.counted;
-      texts = texts_long ∙ sym made.counted;
+      texts = texts_long at ∙ sym made.counted;
       inside = λ i d inside. omega (arith, made.inside i d inside, counted);
     })
 
 pub loosen_unless_all-requires : goal.loosen_unless_all-requires
 loosen_unless_all-requires c =
-    let made = parts_made (goal.at.loosen_unless_all-requires c).In_ok-parts in
-    let waking = c.requires.waking in
-    let texts_long : length c.args.waking.texts.items ≡ length c.args.waking.slots.items =
-    ap length waking.texts ∙ length-map waking.some (text_of_group c.args.graph.now) ∙ made.long in
+    let at = (goal.at.loosen_unless_all-requires c).In_ok-parts in
+    let made = parts_made at in
     rw (c.deref-5.ensures.value, c.deref_mut.ensures.value) (record {
-      texts = texts_long ∙ sym made.counted;
-      some = has_nodes c.args.graph.now waking.some c.in_ok-parts.parts.items made.fresh_are;
+      texts = texts_long at ∙ sym made.counted;
+      some = has_nodes c.args.graph.now c.requires.waking.some c.in_ok-parts.parts.items made.fresh_are;
     })
 
 pub coded_of-requires : goal.coded_of-requires
@@ -70,11 +70,10 @@ coded_of-requires c =
 
 pub returns-clause-risen : goal.returns-clause-risen
 returns-clause-risen c =
-    let at = (goal.at.returns-clause-risen c).In_ok-parts in
+    let waking = c.requires.waking in
+    let made = parts_made (goal.at.returns-clause-risen c).In_ok-parts in
     let g = c.args.graph.now in
     let m = c.args.self.now in
-    let waking = c.requires.waking in
-    let made = parts_made at in
     let old = c.in_ok-parts.parts.items in
     let now = c.loosen_unless_all.new.parts in
     let final = with_items_is c.in_ok-parts.parts now (omega (arith, c.loosen_unless_all.auto.parts, c.deref_mut.ensures.len)) in
@@ -83,12 +82,7 @@ returns-clause-risen c =
     subst (Loosens old) (sym final) (subst (λ list. Loosens list now) c.deref_mut.ensures.value c.loosen_unless_all.ensures.loosens) in
     let wide = ap (λ (one : MachineData). one.wide) c.self.view_is in
     record {
-      groups = waking.groups;
-      are = waking.are;
-      some = waking.some;
-      waiting = waking.waiting;
-      fit = waking.fit;
-      texts = waking.texts;
+      of = waking.of;
       made = subst (AreMade g waking.some c.args.waking.slots.items m.parts parts) c.requires.covers.counted
           (AreMade-loosened g waking.some c.args.waking.slots.items m.parts old parts (length m.state) loosens made);
       coded = rw (c.deref-6.ensures.value, c.deref-7.ensures.value) at c.in_ok-coded.ensures;

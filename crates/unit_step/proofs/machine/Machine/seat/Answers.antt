@@ -26,7 +26,6 @@ numbers_read old new pushed k = ap (λ (list : List (Option ℕ)). slice_index_o
 pub invariant_of-self-in_err-widen_for_parts : goal.invariant_of-self-in_err-widen_for_parts
 invariant_of-self-in_err-widen_for_parts c =
     let i = c.self.inside in
-    let members = c.args.members.now in
     rw c.reserve.ensures.items (
       (IsMachine-roomier i.body.parts.items i.body.agenda.marks i.body.agenda.waiting (length i.body.state.items) i.body.readers i.body.owners.items i.body.uses.numbers i.body.held i.body.most (rooms i.body.workspace) c.self.invariant.0 i.body.uses.numbers (rooms c.widen_for_parts.new.workspace) (omega arith)
           c.widen_for_parts.ensures.values c.widen_for_parts.ensures.changes c.widen_for_parts.ensures.parts),
@@ -39,7 +38,6 @@ invariant_of-self-in_err-widen_for_parts c =
 pub invariant_of-self-in_err-add : goal.invariant_of-self-in_err-add
 invariant_of-self-in_err-add c =
     let i = c.self.inside in
-    let members = c.args.members.now in
     let same = ap (λ (uses : UsesData). length uses.numbers) c.in_err-add.ensures.err in
     rw c.reserve.ensures.items (
       (IsMachine-roomier i.body.parts.items i.body.agenda.marks i.body.agenda.waiting (length i.body.state.items) i.body.readers i.body.owners.items i.body.uses.numbers i.body.held i.body.most (rooms i.body.workspace) c.self.invariant.0 c.add.new.self.numbers (rooms c.widen_for_parts.new.workspace)
@@ -54,7 +52,6 @@ invariant_of-self-in_err-add c =
 pub invariant_of-self-in_err-wait_more : goal.invariant_of-self-in_err-wait_more
 invariant_of-self-in_err-wait_more c =
     let i = c.self.inside in
-    let members = c.args.members.now in
     let more = ap length c.in_ok-add.ensures.ok in
     rw (c.reserve.ensures.items, c.in_err-wait_more.ensures.err) (
       (IsMachine-roomier i.body.parts.items i.body.agenda.marks i.body.agenda.waiting (length i.body.state.items) i.body.readers i.body.owners.items i.body.uses.numbers i.body.held i.body.most (rooms i.body.workspace) c.self.invariant.0 c.add.new.self.numbers (rooms c.widen_for_parts.new.workspace)

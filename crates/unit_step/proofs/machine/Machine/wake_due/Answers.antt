@@ -14,7 +14,7 @@ use Rattle.machine_laws.proofs.FinishingBuilds.{waiting_texts}
 use Rattle.unit_step.specs.Holding.{HoldsNextIn}
 use Rattle.unit_step.proofs.FinishingOrder.{MakesReady-next}
 use Rattle.unit_step.proofs.HoldingLemmas.{HoldsWide-next, next_woken, none_after, none_held, StaysKnown-next}
-use Rattle.unit_step.proofs.WakingLemmas.{all_passed, all_held, woken_untold, Wakes-none, Fills-none}
+use Rattle.unit_step.proofs.WakingLemmas.{all_passed, woken_untold, Fills-none, MakesReady-none, StaysKnown-none}
 use Rattle.unit_step.proofs.machine.Machine.wake_due.Given.{Over}
 use Rattle.unit_step.proofs.machine.Machine.wake_due.Goals.{In_ok-waking, In_ok-holding, After-hold-2}
 use Rattle.unit_step.proofs.machine.Machine.wake_due.Goals as goal
@@ -55,23 +55,16 @@ hold-requires g c = tt
 pub returns-then-has_no_group-clause-makes_ready : goal.returns-then-has_no_group-clause-makes_ready
 returns-then-has_no_group-clause-makes_ready g c =
     let (told, without) = c.has_no_group.ensures.0 c.if-has_no_group.true in
-    let due = c.in_ok-sizes.ensures.due in
-    let graph = c.args.graph.now in
-    let m = c.args.self.now in
-    let passed = all_passed graph m c.args.large c.in_ok-sizes.sizes due told without in
-    MakesReady-next c.args.large graph m m c.hold.new.self [] None c.requires.covers
-    (Wakes-none graph m c.requires.covers c.args.large passed due.texts) c.in_ok-sizes.ensures.few c.requires.railed c.requires.sound
-    (all_held graph m c.requires.covers c.args.large passed) c.hold.ensures
+    let passed = all_passed c.args.graph.now c.args.self.now c.args.large c.in_ok-sizes.sizes c.in_ok-sizes.ensures.due told without in
+    MakesReady-none c.args.graph.now c.args.self.now c.requires.covers c.args.large passed c.in_ok-sizes.ensures.due.texts c.in_ok-sizes.ensures.few
+    c.requires.railed c.requires.sound c.hold.new.self c.hold.ensures
 
 pub returns-then-has_no_group-clause-stays : goal.returns-then-has_no_group-clause-stays
 returns-then-has_no_group-clause-stays g c =
     let (told, without) = c.has_no_group.ensures.0 c.if-has_no_group.true in
     let due = c.in_ok-sizes.ensures.due in
-    let graph = c.args.graph.now in
-    let m = c.args.self.now in
-    let passed = all_passed graph m c.args.large c.in_ok-sizes.sizes due told without in
-    StaysKnown-next graph m m [] c.requires.covers (Wakes-none graph m c.requires.covers c.args.large passed due.texts) c.args.large None c.hold.new.self
-    (all_held graph m c.requires.covers c.args.large passed) c.hold.ensures
+    StaysKnown-none c.args.graph.now c.args.self.now c.requires.covers c.args.large
+    (all_passed c.args.graph.now c.args.self.now c.args.large c.in_ok-sizes.sizes due told without) due.texts c.hold.new.self c.hold.ensures
 
 pub returns-then-has_no_group-clause-fills : goal.returns-then-has_no_group-clause-fills
 returns-then-has_no_group-clause-fills g c =

@@ -128,13 +128,15 @@ returns-clause-waking c =
       reads = c.in_ok-reads.reads;
     } in
     let waking : IsWaking g m made = record {
-      groups = covers.groups.groups;
-      are = covers.are.are;
-      some = told_in at;
-      waiting = AreWaiting-found g m covers _ owners (own_in at) (due_in at).due (slots_in at) (IsPassed c.requires.due.0 m.wide) (due_in at).all
-          (passed_told g m covers c.requires.due.0) told_nodes c.in_ok-slots.slots.items (told_ids at) slots_are;
-      fit = with_text_fits (filter (due_in at).due covers.groups.groups);
-      texts = c.in_ok-texts.ensures.texts ∙ ap (map (text_of_group g)) chosen_texts;
+      of = record {
+        groups = covers.groups.groups;
+        are = covers.are.are;
+        some = told_in at;
+        waiting = AreWaiting-found g m covers _ owners (own_in at) (due_in at).due (slots_in at) (IsPassed c.requires.due.0 m.wide) (due_in at).all
+            (passed_told g m covers c.requires.due.0) told_nodes c.in_ok-slots.slots.items (told_ids at) slots_are;
+        fit = with_text_fits (filter (due_in at).due covers.groups.groups);
+        texts = c.in_ok-texts.ensures.texts ∙ ap (map (text_of_group g)) chosen_texts;
+      };
       maps = c.in_ok-texts.ensures.maps ∙ ap (map (local_nodes g)) chosen_texts;
       reads = subst (λ (groups : List Group). AllZip (λ group list. AreReads g group list.items) groups c.in_ok-reads.reads.items) chosen_reads
           c.in_ok-reads.ensures;

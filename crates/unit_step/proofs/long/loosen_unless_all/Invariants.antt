@@ -1,7 +1,7 @@
 -- Of the parts so far some have lost their codes, and all whose groups are stepped by vicinities.
 use Rattle.machine_laws.specs.Finishing.{Loosens}
 use Rattle.unit_step.proofs.LongLemmas.{LoosensUpTo}
-use Rattle.unit_step.proofs.long.loosen_waking.Given as goal
+use Rattle.unit_step.proofs.long.loosen_unless_all.Given as goal
 
 abbrev pub invariant-loop-place : goal.invariant-loop-place
 invariant-loop-place l = record {
