@@ -1,25 +1,17 @@
 //! Commands for columns: what is done in each column, by the letters that it is given, and the commands that take no step.
 
 ghost use Rattle.std.specs.Prelude.{◌≡◌, ◌<◌, ◌≤◌, ℕ, List, [], is_some, true, map, None, All, IfErr, IfOk, OnErr, OnOk};
-ghost use Rattle.switch_paths.specs.Graphs.{nodes};
-ghost use Rattle.switch_paths.specs.declared.TheConstants.{RAILS};
+ghost use Rattle.cosmos_session.specs.Words.{nodes, RAILS, GroupTextData, used_texts, texts_of, Shared, Values, IsShared, IsSharedSetup};
+ghost use Rattle.cosmos_session.specs.Words.{alone_of, in_column, value_in, Leads, LeadsBy, Placed, AreSound, IsLetters, ObeysInAll};
+ghost use Rattle.cosmos_session.specs.Words.{ObeysInAllOn, QuietlyInAll, acts_of_letters, column_of, IsFaultFor, NamesNode, refusal_of};
+ghost use Rattle.cosmos_session.specs.Words.{IsHeldSession, start_of, faults_applied, IsEditing, IsStill};
 ghost use Rattle.netlist.specs.Words.{node_of, node_named};
-ghost use Rattle.group_text.specs.Texts.{GroupTextData};
 ghost use Rattle.script_lang.specs.Forms as form;
 ghost use Rattle.script_lang.specs.declared.command.Command.TheVariants as family;
-ghost use Rattle.column_script.specs.declared.command.ColumnCommand.TheVariants.{Shared, Values};
-ghost use Rattle.column_script.specs.Commands.{IsShared, IsSharedSetup, alone_of, in_column, value_in};
 ghost use Rattle.column_script.specs.Forms.{IsFormed};
-ghost use Rattle.column_stage.specs.Acts.{Leads, LeadsBy, Placed};
-ghost use Rattle.column_stage.specs.Columns.{AreSound, IsLetters};
-ghost use Rattle.session_meaning.specs.Columns.{ObeysInAll, ObeysInAllOn, QuietlyInAll, acts_of_letters, column_of};
-ghost use Rattle.session_meaning.specs.Preparing.{IsFaultFor, NamesNode};
-ghost use Rattle.session_meaning.specs.Refusals.{refusal_of};
-ghost use Rattle.session_meaning.specs.Sessions.{IsHeldSession, start_of};
-ghost use Rattle.session_meaning.specs.Sinks.{faults_applied};
-ghost use Rattle.session_meaning.specs.Stages.{IsEditing, IsStill};
 ghost use Rattle.cosmos_session.specs.Targets.{target_of};
 
+use crate::guesses::Guesses;
 use crate::session::Session;
 use crate::values::Target;
 use crate::waves::RowRoom;
@@ -47,6 +39,25 @@ impl<M: Columns> Session<M> {
         ensures start { (column : ℕ) → column < M.columns stage → column_of M.states result column ≡ start_of circuit }
     {
         let kept = Kept::with_keys(alloc, circuit.keys());
+        Self::over_stage(alloc, circuit, kept, stage, Guesses::none(alloc))
+    }
+
+    // A session at its start over a stage whose columns are at theirs, which keeps these, without a bound.
+    pub(crate) fn over_stage(
+        alloc: Global,
+        circuit: Circuit,
+        kept: Kept,
+        stage: M,
+        guesses: Guesses,
+    ) -> Session<M>
+        requires bound { kept.bound ≡ None }
+        requires some { 1 ≤ M.columns stage }
+        requires start { (column : ℕ) → column < M.columns stage → M.states stage column ≡ (start_of circuit).state }
+        requires last { M.last stage ≡ [] }
+        requires serves { M.serves stage circuit.graph (used_texts (M.last stage) (texts_of kept)) }
+        ensures core { result.core ≡ record (start_of circuit) { kept = texts_of kept } }
+        ensures stage { result.stage ≡ stage }
+    {
         // For the proof alone: a circuit's graph is well formed.
         let _graph = circuit.graph();
         let vectors = Vectors::new(alloc, circuit.keys());
@@ -65,6 +76,7 @@ impl<M: Columns> Session<M> {
             large: 0,
             fresh: 0,
             room: RowRoom::new(alloc),
+            guesses,
         }
     }
 }

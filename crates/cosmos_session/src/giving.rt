@@ -10,6 +10,7 @@ ghost use Rattle.cosmos_session.specs.Words.{acts_of_states, give_of, refusal_of
 ghost use Rattle.cosmos_session.specs.Targets.{target_at};
 
 use crate::columns::target_of;
+use crate::guesses::Guesses;
 use crate::placing::put_node;
 use crate::session::Session;
 use crate::values::{Target, all_states, place_refusal};
@@ -18,6 +19,7 @@ use column_stage::{Columns, PlainStage};
 use netlist::{Circuit, RAILS};
 use script_lang::{Give, ValueList};
 use session_meaning::ApplyFault;
+use std::mem;
 use ternary::Tern;
 
 impl<M: PlainStage> Session<M> {
@@ -42,9 +44,28 @@ impl<M: PlainStage> Session<M> {
             (acts_of_states self.old.core.circuit.graph (effect.states_by self.old.core.circuit self.old.core.vectors list.now)) self.new.stage) }
         ensures still { OnErr result (self.new.stage ≡ self.old.stage) }
     {
-        let states = self.values_allowed(kind, list)?;
+        let states = self.values_noted(kind, list)?;
         self.put_assigned(&states);
         Ok(())
+    }
+
+    // The nodes that `set` or `charge` gives states, as `values_allowed` answers them; for which nodes the words stood is noted.
+    fn values_noted(
+        &mut self,
+        kind: ValueCommand,
+        list: &ValueList,
+    ) -> Result<Vec<(usize, Tern)>, ApplyFault>
+        ensures same { self.new ≡ self.old }
+        ensures allowed { OnOk result (refusal_of self.old.core (give_of kind list.now) ≡ None) }
+        ensures states { IfOk result (λ states. states.items ≡ effect.states_by self.old.core.circuit self.old.core.vectors list.now) }
+        ensures within { IfOk result (λ states. All (λ pair. pair.0 < nodes self.old.core.circuit.graph) states.items) }
+        ensures refused { IfErr result (IsFaultFor (refusal_of self.old.core (give_of kind list.now))) }
+    {
+        let none = Guesses::none(self.alloc);
+        let mut guesses = mem::replace(&mut self.guesses, none);
+        let states = self.values_guessed(kind, list, &mut guesses);
+        self.guesses = guesses;
+        states
     }
 
     // Gives these nodes, none of which is a rail, their states, from left to right.
@@ -71,8 +92,23 @@ impl<M: Columns> Session<M> {
         ensures within { IfOk result (λ states. All (λ pair. pair.0 < nodes self.now.core.circuit.graph) states.items) }
         ensures refused { IfErr result (IsFaultFor (refusal_of self.now.core (give_of kind list.now))) }
     {
+        self.values_guessed(kind, list, &mut Guesses::none(self.alloc))
+    }
+
+    // The same, with these guesses for the words.
+    fn values_guessed(
+        &self,
+        kind: ValueCommand,
+        list: &ValueList,
+        guesses: &mut Guesses,
+    ) -> Result<Vec<(usize, Tern)>, ApplyFault>
+        ensures allowed { OnOk result (refusal_of self.now.core (give_of kind list.now) ≡ None) }
+        ensures states { IfOk result (λ states. states.items ≡ effect.states_by self.now.core.circuit self.now.core.vectors list.now) }
+        ensures within { IfOk result (λ states. All (λ pair. pair.0 < nodes self.now.core.circuit.graph) states.items) }
+        ensures refused { IfErr result (IsFaultFor (refusal_of self.now.core (give_of kind list.now))) }
+    {
         let target = target_of(kind);
-        self.states_for(list, target)
+        self.states_guessed(list, target, guesses)
     }
 
     /// The states that these assignments give nodes, from left to right.
@@ -87,11 +123,27 @@ impl<M: Columns> Session<M> {
         ensures refused { IfErr result (IsFaultFor
             (values_refusal (target_at target self.now.core.circuit) self.now.core.circuit self.now.core.vectors list.now)) }
     {
+        self.states_guessed(list, target, &mut Guesses::none(self.alloc))
+    }
+
+    // The same, with these guesses for the words.
+    fn states_guessed(
+        &self,
+        list: &ValueList,
+        target: Target,
+        guesses: &mut Guesses,
+    ) -> Result<Vec<(usize, Tern)>, ApplyFault>
+        ensures allowed { OnOk result (values_refusal (target_at target self.now.core.circuit) self.now.core.circuit self.now.core.vectors list.now ≡ None) }
+        ensures states { IfOk result (λ states. states.items ≡ effect.states_by self.now.core.circuit self.now.core.vectors list.now) }
+        ensures within { IfOk result (λ states. All (λ pair. pair.0 < nodes self.now.core.circuit.graph) states.items) }
+        ensures refused { IfErr result (IsFaultFor
+            (values_refusal (target_at target self.now.core.circuit) self.now.core.circuit self.now.core.vectors list.now)) }
+    {
         let (circuit, vectors) = (&self.circuit, &self.vectors);
         if let Some(refusal) = place_refusal(circuit, vectors, list.items()) {
             return Err(ApplyFault::Refused(refusal));
         }
-        all_states(self.alloc, circuit, vectors, list.items(), target)
+        all_states(self.alloc, circuit, vectors, list.items(), target, guesses)
     }
 }
 

@@ -36,6 +36,7 @@ mod changes;
 mod columns;
 mod edits;
 mod giving;
+mod guesses;
 mod looking;
 mod naming;
 mod placing;

@@ -1,23 +1,18 @@
 //! The data of a session, and what each command does to them.
 
-ghost use Rattle.std.specs.Prelude.{◌≡◌, not, [], None, IfOk, IfErr, OnOk};
-ghost use Rattle.group_analysis.specs.Using.{used_texts};
-ghost use Rattle.analysis_cache.specs.Keeping.{texts_of};
+ghost use Rattle.std.specs.Prelude.{◌≡◌, not, None, IfOk, IfErr, OnOk};
+ghost use Rattle.cosmos_session.specs.Words.{texts_of, start_of, IsHeldSession, IsUnseen, KnowsBehind, PassesThrough, Sees, NamesNode};
+ghost use Rattle.cosmos_session.specs.Words.{faults_applied, Obeys, ObeysOn};
 ghost use Rattle.script_lang.specs.Forms.{IsFormed};
-ghost use Rattle.session_meaning.specs.Sessions.{start_of, IsHeldSession};
-ghost use Rattle.session_meaning.specs.Passing.{IsUnseen, KnowsBehind, PassesThrough, Sees};
-ghost use Rattle.session_meaning.specs.Preparing.{NamesNode};
-ghost use Rattle.session_meaning.specs.Sinks.{faults_applied};
-ghost use Rattle.session_meaning.specs.Outcomes.{Obeys};
-ghost use Rattle.session_meaning.specs.Stages.{ObeysOn};
 
+use crate::guesses::Guesses;
 use crate::waves::RowRoom;
 use analysis_cache::{Analyst, Kept};
 use column_stage::{Columns, PlainStage};
 use netlist::Circuit;
 use node_words::Vectors;
 use script_lang::{Command, Name, StateList};
-use session_meaning::{ApplyFault, Clock, FIRST_LIMIT};
+use session_meaning::{ApplyFault, Clock};
 use settling::{Blind, Onlooker};
 use std::alloc::Global;
 use std::marker::Model;
@@ -32,7 +27,7 @@ use told_lines::Lines;
 ///
 /// Beside these data contracts see the stage that moves the state, whatever it is: what it is built of comes at the
 /// first command that wants it, and lives through edits of the circuit. They don't see the room for rows of waveform lines, which is
-/// held between commands.
+/// held between commands, nor the nodes that are guessed for words.
 #[derive(Drop)]
 pub struct Session<M: Columns> {
     pub(crate) alloc: Global,
@@ -49,6 +44,7 @@ pub struct Session<M: Columns> {
     pub(crate) large: usize,
     pub(crate) fresh: u64,
     pub(crate) room: RowRoom,
+    pub(crate) guesses: Guesses,
 }
 
 impl<M: Columns> Model for Session<M> {
@@ -102,6 +98,11 @@ impl<M: Columns> Session<M> {
         &self.vectors
     }
 
+    /// The nodes that are guessed for the next words of `set` and `charge`, in order, if the script ran before.
+    pub fn guesses(&self) -> &[usize] {
+        self.guesses.next()
+    }
+
     /// The stage that moves the state: it serves the circuit with what is kept. After a unit step, a phase, a cycle or a
     /// report it fits the circuit, until an edit.
     pub fn stage(&self) -> &M
@@ -138,38 +139,8 @@ impl<M: PlainStage> Session<M> {
         ensures starts { IfOk result (λ session. M.starts session.stage) }
     {
         let state = first_states(alloc, &circuit)?;
-        Ok(Self::over_stage(alloc, circuit, kept, M::still(state)))
-    }
-
-    // A session at its start over a stage at its own, which keeps these, without a bound.
-    fn over_stage(alloc: Global, circuit: Circuit, kept: Kept, stage: M) -> Session<M>
-        requires bound { kept.bound ≡ None }
-        requires one { M.columns stage ≡ 1 }
-        requires state { M.states stage 0 ≡ (start_of circuit).state }
-        requires last { M.last stage ≡ [] }
-        requires serves { M.serves stage circuit.graph (used_texts (M.last stage) (texts_of kept)) }
-        ensures core { result.core ≡ record (start_of circuit) { kept = texts_of kept } }
-        ensures stage { result.stage ≡ stage }
-    {
-        // For the proof alone: a circuit's graph is well formed.
-        let _graph = circuit.graph();
-        let vectors = Vectors::new(alloc, circuit.keys());
-        Session {
-            alloc,
-            circuit,
-            stage,
-            watched: Vec::new(alloc),
-            clocks: Vec::new(alloc),
-            limit: FIRST_LIMIT,
-            count: 0,
-            missed: false,
-            vectors,
-            saves: Vec::new(alloc),
-            kept,
-            large: 0,
-            fresh: 0,
-            room: RowRoom::new(alloc),
-        }
+        let guesses = Guesses::none(alloc);
+        Ok(Self::over_stage(alloc, circuit, kept, M::still(state), guesses))
     }
 
     /// A session at its start over a copy of another circuit, in which what this one keeps is kept still, without a bound. Its stage may hold on
@@ -184,6 +155,7 @@ impl<M: PlainStage> Session<M> {
             circuit,
             stage,
             mut kept,
+            guesses,
             ..
         } = self;
         let circuit = start.copy_over(alloc, circuit)?;
@@ -191,7 +163,7 @@ impl<M: PlainStage> Session<M> {
         kept.set_bound(None);
         let state = first_states(alloc, &circuit)?;
         let again = stage.again(state);
-        Ok(Self::over_stage(alloc, circuit, kept, again))
+        Ok(Self::over_stage(alloc, circuit, kept, again, guesses.again()))
     }
 
     /// The state of each node.

@@ -6,6 +6,7 @@ ghost use Rattle.node_values.specs.Givings as giving;
 ghost use Rattle.session_meaning.specs.Refusals as spec;
 ghost use Rattle.cosmos_session.specs.Targets.{target_at};
 
+use crate::guesses::Guesses;
 use netlist::{Circuit, RAILS};
 use node_values::{GivenFault, is_misplaced, letters_given, one_given};
 use node_words::Vectors;
@@ -48,6 +49,7 @@ pub(crate) fn all_states(
     vectors: &Vectors,
     list: &[(Name, Value)],
     target: Target,
+    guesses: &mut Guesses,
 ) -> Result<Vec<(usize, Tern)>, ApplyFault>
     requires netlist { IsCircuit circuit.now }
     requires within { AreWithin (nodes circuit.now.graph) vectors.now }
@@ -55,7 +57,7 @@ pub(crate) fn all_states(
     ensures states { IfOk result (λ states. states.items ≡ states_by circuit.now vectors.now list.now) }
     ensures refused { IfErr result (IsFaultFor (spec.givings_refusal (target_at target circuit.now) circuit.now vectors.now list.now)) }
 {
-    let mut states = Vec::new(alloc);
+    let mut states = Vec::with_capacity(alloc, list.len())?;
     for (name, value) in list {
         add_given(
             alloc,
@@ -64,6 +66,7 @@ pub(crate) fn all_states(
             name.items(),
             value,
             target,
+            guesses,
             &mut states,
         )?;
     }
@@ -78,6 +81,7 @@ fn add_given(
     name: &[u8],
     value: &Value,
     target: Target,
+    guesses: &mut Guesses,
     states: &mut Vec<(usize, Tern)>,
 ) -> Result<(), ApplyFault>
     requires netlist { IsCircuit circuit.now }
@@ -88,9 +92,12 @@ fn add_given(
     ensures refused { IfErr result (IsFaultFor
         (spec.given_refusal (target_at target circuit.now) (giving.letters_given circuit.now vectors.now (name.now, value.now)))) }
 {
-    if let Some((node, state)) = one_given(circuit, vectors, name, value) {
+    let guess = guesses.first();
+    if let Some((node, state)) = one_given(circuit, vectors, name, value, guess) {
+        guesses.note(node);
         return add_state(circuit, target, node, Some(state), states);
     }
+    guesses.note(usize::MAX);
     let pairs = pairs_given(alloc, circuit, vectors, name, value)?;
     add_states(circuit, target, &pairs, states)
 }

@@ -3,3 +3,4 @@ pub mod Changes
 pub mod Faults
 pub mod Masks
 pub mod Traces
+pub mod Words

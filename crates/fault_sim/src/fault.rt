@@ -1,9 +1,6 @@
 //! The lines of a list of faults.
 ghost use Rattle.std.specs.Prelude.{◌≡◌, ◌<◌, ◌≤◌, IfOk, IfSome, is_some, true};
-ghost use Rattle.line_words.specs.Decimals.{decimal_of};
-ghost use Rattle.switch_paths.specs.Graphs.{nodes};
-ghost use Rattle.netlist.specs.Names.{node_of};
-ghost use Rattle.netlist.specs.Edits.{switch_numbered};
+ghost use Rattle.fault_sim.specs.Words.{decimal_of, nodes, node_of, switch_numbered};
 ghost use Rattle.fault_sim.specs.Faults.{fault_of, fault_of_line, fault_of_words, free_node, kind_of, number_of, IsFault};
 
 use line_words::{LineFault, Words, check_line, decimal, is_comment, words};

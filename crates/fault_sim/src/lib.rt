@@ -13,7 +13,7 @@
 //!
 //! ```text
 //! read_fault(&circuit, b"zero a")        is Ok(Some(Fault::Stuck(2, Tern::Zero)))
-//! masked(alloc, &set_a_to_1, &circuit, &vectors, Some((2, Tern::Zero)))
+//! masked(alloc, &set_a_to_1, &circuit, &vectors, &[], Some((2, Tern::Zero)))
 //!                                        is Ok(Left::Other(set a=0)): the node stays as it is
 //! first_in_row(true, &[Tern::Zero, Tern::One], &[Tern::Unk, Tern::Zero])
 //!                                        is Some(1)

@@ -10,7 +10,7 @@ ghost use Rattle.fault_sim.specs.Masks as spec;
 ghost use Rattle.fault_sim.specs.Masks.{command_left, is_stuck, masked_of, state_for, IsSpared};
 
 use netlist::Circuit;
-use node_values::{GivenFault, letters_given};
+use node_values::{GivenFault, is_called, letters_given};
 use node_words::{Named, Vectors};
 use script_lang::{ClockList, Command, Edit, Give, Name, Setup, StateList, Value, ValueList};
 use std::alloc::Global;
@@ -35,11 +35,14 @@ pub enum Left {
 /// vector has the node; each word that names it is taken out of `charge`, which does nothing if no word is
 /// left, and its letters in vectors give it nothing; and `store` of it does nothing. Names are looked up in the
 /// circuit and among the vectors as they are at the command. All other words stay.
+///
+/// A word of `set` isn't looked up if the node that is guessed for it, at its place, is called so.
 pub fn masked(
     alloc: Global,
     command: &Command,
     circuit: &Circuit,
     vectors: &Vectors,
+    guesses: &[usize],
     stuck: Option<(usize, Tern)>,
 ) -> Result<Left, NoMemory>
     requires { IsFormed command.now }
@@ -53,6 +56,7 @@ pub fn masked(
                 alloc,
                 circuit,
                 vectors,
+                guesses,
                 stuck,
             };
             masked_by_family(&mask, command)
@@ -66,6 +70,8 @@ struct Mask<'a> {
     alloc: Global,
     circuit: &'a Circuit,
     vectors: &'a Vectors,
+    // Nodes for which the words of `set` may stand, in order.
+    guesses: &'a [usize],
     stuck: Option<(usize, Tern)>,
 }
 
@@ -135,18 +141,32 @@ fn masked_set(mask: &Mask<'_>, list: &ValueList) -> Result<Left, NoMemory>
 fn spares(mask: &Mask<'_>, list: &ValueList) -> bool
     ensures { OnTrue result (spec.masked_sets mask.now.circuit.now mask.now.vectors.now mask.now.stuck list.now ≡ list.now) }
 {
+    let mut guesses = mask.guesses;
     for (name, _) in list.items() {
-        if !spares_name(mask, name.items()) {
+        let (guess, later) = first_guess(guesses);
+        guesses = later;
+        if !spares_name(mask, name.items(), guess) {
             return false;
         }
     }
     true
 }
 
-// Whether a name stands for a node that isn't stuck, or for nothing.
-fn spares_name(mask: &Mask<'_>, name: &[u8]) -> bool
+// The node that is guessed first, if there is one, and the later guesses.
+fn first_guess(guesses: &[usize]) -> (usize, &[usize]) {
+    match guesses {
+        [] => (usize::MAX, guesses),
+        [guess, later @ ..] => (*guess, later),
+    }
+}
+
+// Whether a name stands for a node that isn't stuck, or for nothing. It isn't looked up if the node that is guessed is called so.
+fn spares_name(mask: &Mask<'_>, name: &[u8], guess: usize) -> bool
     ensures { OnTrue result (IsSpared mask.now.circuit.now mask.now.vectors.now mask.now.stuck name.now) }
 {
+    if is_called(mask.circuit, guess, name) {
+        return is_other(mask.stuck, guess);
+    }
     match mask.vectors.named(mask.circuit, name) {
         Named::Node(node) => is_other(mask.stuck, node),
         Named::Vector(_) => false,

@@ -3,6 +3,7 @@ ghost use Rattle.std.specs.Prelude.{◌≡◌, ◌⊎◌, [], ◌∷◌, Ok, Err
 ghost use Rattle.node_values.specs.Givings as spec;
 
 use crate::fault::GivenFault;
+use crate::guesses::is_called;
 use netlist::Circuit;
 use node_words::{Named, Vectors};
 use script_lang::Value;
@@ -60,19 +61,26 @@ pub fn letters_given(
 }
 
 /// The node of an assignment that gives a state to one node, by its name, and the state. It takes no memory; None says nothing.
+/// The name isn't looked up if the node that is guessed is called so.
 pub fn one_given(
     circuit: &Circuit,
     vectors: &Vectors,
     name: &[u8],
     value: &Value,
+    guess: usize,
 ) -> Option<(usize, Tern)>
     ensures { IfSome result (λ given. spec.letters_given circuit.now vectors.now (name.now, value.now) ≡ Ok ((given.0, Some given.1) ∷ [])) }
 {
     match value {
-        Value::Letter(state) => match vectors.named(circuit, name) {
-            Named::Node(node) => Some((node, *state)),
-            Named::Vector(_) | Named::Nothing => None,
-        },
+        Value::Letter(state) => {
+            if is_called(circuit, guess, name) {
+                return Some((guess, *state));
+            }
+            match vectors.named(circuit, name) {
+                Named::Node(node) => Some((node, *state)),
+                Named::Vector(_) | Named::Nothing => None,
+            }
+        }
         Value::Wide(_) | Value::Alone(_) => None,
     }
 }

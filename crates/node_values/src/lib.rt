@@ -3,7 +3,7 @@
 //! The main call is [`letters_given`]. The layers above use its contract: the nodes with their letters are
 //! exactly `letters_given` of `specs/Givings.antt`, and there is none exactly for the fault that this has.
 //! [`is_misplaced`] tells the values that may stand at vectors alone, and [`one_given`] gives the one node of most
-//! assignments, without memory.
+//! assignments, without memory. Who guesses which node that is saves it a look-up: [`is_called`] says if the guess is right.
 //!
 //! ```text
 //! a is node 2, and the vector v has the nodes 2 and 3
@@ -19,6 +19,8 @@
 
 mod fault;
 mod givings;
+mod guesses;
 
 pub use fault::GivenFault;
 pub use givings::{is_misplaced, letters_given, one_given};
+pub use guesses::is_called;

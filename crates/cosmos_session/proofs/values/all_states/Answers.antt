@@ -12,7 +12,7 @@ use Rattle.cosmos_session.proofs.values.all_states.Goals as goal
 
 pub returns-in_err-add_given-clause-refused : goal.returns-in_err-add_given-clause-refused
 returns-in_err-add_given-clause-refused c =
-    let stopped = err_from_is_err_and c.from_residual.result c.from_residual.ensures.1 in
+    let stopped = err_from_is_err_and c.from_residual-in_err-add_given.result c.from_residual-in_err-add_given.ensures.1 in
     let refusal = λ (one : List ℕ × Value). given_refusal (target_at c.args.target c.args.circuit.now) (letters_given c.args.circuit.now c.args.vectors.now one) in
     rw (stopped.1, stopped.2)
     (refusal-stops refusal c.args.list.now c.loop-name.name-index c.loop-name-item.result _ (omega arith) c.loop-name-item.is

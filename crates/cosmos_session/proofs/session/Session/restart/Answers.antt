@@ -1,5 +1,5 @@
 -- The texts of the last build stand in front of what is kept, and count as standing there; so the stage serves the other circuit too.
-use Rattle.std.proofs.Common.{◌≡◌, List, sym, ap, subst, ◌∙◌}
+use Rattle.std.proofs.Common.{◌≡◌, ℕ, ◌≤◌, List, sym, ap, subst, ◌∙◌, arith}
 use Rattle.netlist.specs.Circuits.{CircuitData}
 use Rattle.group_text.specs.Texts.{GroupTextData}
 use Rattle.group_analysis.specs.Using.{used_texts}
@@ -8,6 +8,7 @@ use Rattle.column_stage.proofs.FrontLemmas.{kept_alone}
 use Rattle.session_meaning.specs.Sessions.{HeldSession, IsHeldSession, start_of}
 use Rattle.cosmos_session.proofs.session.Session.restart.Given.{Over}
 use Rattle.cosmos_session.proofs.session.Session.restart.Goals.{After-set_bound}
+use Rattle.cosmos_session.proofs.StageLemmas.{start_alone}
 use Rattle.cosmos_session.proofs.session.Session.restart.Goals as goal
 
 -- what is kept is what the session kept
@@ -27,8 +28,8 @@ over_stage-requires g c =
     ap (λ (texts : List GroupTextData). used_texts texts table) last ∙ sym (kept_alone table) in
     record {
       bound = ap (λ (k : KeptData). k.bound) c.set_bound.ensures;
-      one = c.again-again.ensures.one;
-      state = c.again-again.ensures.state ∙ c.in_ok-state.ensures;
+      some = subst (λ (n : ℕ). 1 ≤ n) (sym c.again-again.ensures.one) (omega arith);
+      start = start_alone g.M.Columns.columns g.M.Columns.states c.again-again.result _ c.again-again.ensures.one (c.again-again.ensures.state ∙ c.in_ok-state.ensures);
       last = last;
       serves = subst (g.M.Columns.serves c.again-again.result c.in_ok-circuit.circuit.graph) (sym (front ∙ kept)) served;
     }

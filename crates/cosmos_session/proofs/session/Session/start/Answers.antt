@@ -1,12 +1,13 @@
 -- The stage is at its start, and serves any graph.
-use Rattle.std.proofs.Common.{sym, subst, ◌∙◌}
+use Rattle.std.proofs.Common.{ℕ, ◌≤◌, sym, subst, ◌∙◌, arith}
+use Rattle.cosmos_session.proofs.StageLemmas.{start_alone}
 use Rattle.cosmos_session.proofs.session.Session.start.Goals as goal
 
 pub over_stage-requires : goal.over_stage-requires
 over_stage-requires g c = record {
   bound = c.requires;
-  one = c.still.ensures.one;
-  state = c.still.ensures.state ∙ c.in_ok-state.ensures;
+  some = subst (λ (n : ℕ). 1 ≤ n) (sym c.still.ensures.one) (omega arith);
+  start = start_alone g.M.Columns.columns g.M.Columns.states c.still.result _ c.still.ensures.one (c.still.ensures.state ∙ c.in_ok-state.ensures);
   last = c.still.ensures.last;
   serves = c.still.ensures.serves _ _;
 }

@@ -19,20 +19,11 @@ invariant_of-self g c =
     (sound_still g.M.Columns.columns g.M.Columns.states graph session.stage c.work.new.stage c.work.ensures.columns c.work.ensures.states c.self.invariant.0.sound)
     (c.work.ensures.serves graph)
 
-pub returns-clause-core : goal.returns-clause-core
-returns-clause-core g c =
-    let held = c.self.invariant.0 in
-    let core = (session_of c.self.invariant.0).core in
-    let table = texts_of c.self.inside.kept in
-    rw (← c.self.view_is)
-    (core_given core _ _ _ (c.work.ensures.states 0 (first_of_some _ held.some))
-    (used_same _ _ table c.work.ensures.last))
-
-pub returns-clause-columns : goal.returns-clause-columns
-returns-clause-columns g c = rw (← c.self.view_is) c.work.ensures.columns
-
-pub returns-clause-states : goal.returns-clause-states
-returns-clause-states g c = rw (← c.self.view_is) c.work.ensures.states
-
-pub returns-clause-done : goal.returns-clause-done
-returns-clause-done g c = rw (← c.self.view_is) c.work.ensures.done
+pub returns : goal.returns
+returns g c = record {
+  core = rw (← c.self.view_is)
+      (core_given (session_of c.self.invariant.0).core _ _ _ (c.work.ensures.states 0 (first_of_some _ c.self.invariant.0.some)) (used_same _ _ (texts_of c.self.inside.kept) c.work.ensures.last));
+  columns = rw (← c.self.view_is) c.work.ensures.columns;
+  states = rw (← c.self.view_is) c.work.ensures.states;
+  done = rw (← c.self.view_is) c.work.ensures.done;
+}

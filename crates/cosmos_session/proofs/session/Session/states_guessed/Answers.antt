@@ -5,9 +5,9 @@ use Rattle.switch_paths.specs.Graphs.{nodes}
 use Rattle.session_meaning.specs.Refusals.{first_refusal, place_refusal}
 use Rattle.session_meaning.proofs.ValueLemmas.{states-within}
 use Rattle.session_meaning.proofs.StayingLemmas.{session_of}
-use Rattle.cosmos_session.proofs.session.Session.states_for.Given.{Over}
-use Rattle.cosmos_session.proofs.session.Session.states_for.Goals.{In_default}
-use Rattle.cosmos_session.proofs.session.Session.states_for.Goals as goal
+use Rattle.cosmos_session.proofs.session.Session.states_guessed.Given.{Over}
+use Rattle.cosmos_session.proofs.session.Session.states_guessed.Goals.{In_default}
+use Rattle.cosmos_session.proofs.session.Session.states_guessed.Goals as goal
 
 -- no place of a value is refused
 none : (g : Over) (c : In_default g) → first_refusal (place_refusal (session_of c.self.invariant.0).core.circuit (session_of c.self.invariant.0).core.vectors) c.args.list.now ≡ None
