@@ -15,7 +15,8 @@ use Rattle.machine_laws.specs.Fitting.{Covers}
 use Rattle.machine_laws.specs.Editing.{Edits, is_touched_in}
 use Rattle.machine_laws.proofs.AlikeParts.{alike_groups_keep_their_parts}
 use Rattle.machine_laws.proofs.KeptLemmas.{edits_keep_texts, untouched_alike}
-use Rattle.edits_between.specs.Leading.{CodedAreAlike, EarlyAreAlike, HasParts, IsAsLarge, Led, LedBy, LedIn, last_in}
+use Rattle.edits_between.specs.declared.differing.Differences.{Differences}
+use Rattle.edits_between.specs.Leading.{CodedAreAlike, DifferAt, EarlyAreAlike, HasParts, IsAsLarge, Led, LedBy, LedIn, last_in}
 
 -- ---- groups that stand alike
 
@@ -165,9 +166,32 @@ led_by_then f f_new g h count old mid new same has one two =
 pub covers_the_way : (f f_new g : GraphData) (old mid : Option MachineData) → f_new ≡ g → LedIn f g old mid → IfSome mid (Covers f_new)
 covers_the_way f f_new g old mid same led = subst (λ (at : GraphData). IfSome mid (Covers at)) (sym same) (covers_there f g old mid led)
 
+-- two graphs are as large as each other
+pub large_back : (g h : GraphData) → IsAsLarge g h → IsAsLarge h g
+large_back g h large = record { nodes_are = sym large.nodes_are; places_are = sym large.places_are }
+
 -- and that is as large as the one that is led to
 pub large_from_the_way : (f_new g h : GraphData) → f_new ≡ g → IsAsLarge g h → IsAsLarge f_new h
 large_from_the_way f_new g h same large = subst (λ (at : GraphData). IsAsLarge at h) (sym same) large
+
+-- from the one as from the other they differ at the same places and nodes
+pub differ_back : (g h : GraphData) (differences : Differences) → IsAsLarge g h → DifferAt g h differences → DifferAt h g differences
+differ_back g h differences large differ = record {
+  by_place = λ place inside. elim (differ.by_place place (omega (arith, inside, large.places_are))) [
+    | inl stands ↦ inl stands
+    | inr same ↦ inr (sym same)
+  ];
+  by_node = λ node inside. elim (differ.by_node node (omega (arith, inside, large.nodes_are))) [
+    | inl stands ↦ inl stands
+    | inr same ↦ inr (sym same)
+  ];
+}
+
+-- and so they do from the graph that is the one on the way
+pub differ_from_the_way : (f_new g h : GraphData) (differences : Differences) → f_new ≡ g → IsAsLarge g h → DifferAt h g differences →
+    DifferAt f_new h differences
+differ_from_the_way f_new g h differences same large differ =
+    subst (λ (at : GraphData). DifferAt at h differences) (sym same) (differ_back h g differences (large_back g h large) differ)
 
 -- ---- the graph before an edit
 

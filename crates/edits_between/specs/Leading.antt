@@ -1,5 +1,5 @@
 -- A machine that is led from one graph to another, by the edits between them.
-use Rattle.std.specs.Prelude.{◌≡◌, ◌≢◌, ℕ, ◌<◌, ◌≤◌, List, [], length, slice_set, Option, None, Some, IfSome}
+use Rattle.std.specs.Prelude.{◌≡◌, ◌≢◌, ◌⊎◌, ℕ, ◌<◌, ◌≤◌, List, [], length, slice_set, Contains, Option, None, Some, IfSome}
 use Rattle.switch_paths.specs.Graphs.{GraphData, level_of, nodes, place_at}
 use Rattle.group_meaning.specs.Groups.{Group}
 use Rattle.group_rest.specs.Alike.{IsAlike}
@@ -8,6 +8,7 @@ use Rattle.machine_parts.specs.declared.part.MachinePart.{MachinePart}
 use Rattle.machine_parts.specs.Parts.{Stands}
 use Rattle.machine_laws.specs.Machines.{MachineData}
 use Rattle.machine_laws.specs.Fitting.{IsPartOf, Covers, IsKeptBy}
+use Rattle.edits_between.specs.declared.differing.Differences.{Differences}
 
 -- each part of the machine that has code is that of a group that stands alike in both graphs
 abbrev pub CodedAreAlike : GraphData → GraphData → MachineData → Type 0
@@ -61,3 +62,16 @@ with_level_of target g node = record g { levels = slice_set g.levels node (level
 pub record IsAsLarge (g h : GraphData) : Type 0 where
   pub nodes_are : nodes h ≡ nodes g
   pub places_are : length h.places ≡ length g.places
+
+-- at each place but these the same stands in both graphs
+abbrev pub AreSameBut : GraphData → GraphData → List ℕ → Type 0
+AreSameBut g h places = (place : ℕ) → place < length g.places → Contains places place ⊎ (place_at g.places place ≡ place_at h.places place)
+
+-- each node but these has the same level in both graphs
+abbrev pub AreLevelledBut : GraphData → GraphData → List ℕ → Type 0
+AreLevelledBut g h list = (node : ℕ) → node < nodes g → Contains list node ⊎ (level_of g node ≡ level_of h node)
+
+-- two graphs differ at these places and nodes alone
+pub record DifferAt (g h : GraphData) (differences : Differences) : Type 0 where
+  pub by_place : AreSameBut g h differences.places.items
+  pub by_node : AreLevelledBut g h differences.nodes.items

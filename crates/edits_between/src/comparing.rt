@@ -1,4 +1,4 @@
-//! Whether the same stands at two places, part by part: that is asked at each place of two graphs.
+//! Whether the same stands at two places, part by part, and whether two levels are one: that is asked at each place and of each node of two graphs.
 ghost use Rattle.std.specs.Prelude.{◌≡◌, None, Some};
 ghost use Rattle.std.specs.Bool.{OnTrue};
 
@@ -12,6 +12,13 @@ pub(crate) fn are_same(one: Option<Switch>, other: Option<Switch>) -> bool
         Some(switch) => stands_at(switch, other),
         None => is_empty(other),
     }
+}
+
+/// Whether two levels are one.
+pub(crate) fn are_same_levels(one: u8, other: u8) -> bool
+    ensures { OnTrue result (one ≡ other) }
+{
+    one == other
 }
 
 // Whether nothing stands at a place.

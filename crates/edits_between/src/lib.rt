@@ -1,7 +1,8 @@
 //! A machine that is led from one graph to another, by the edits between them.
 //!
-//! `lead` compares two graphs of as many nodes and places, and follows one edit for each place and each node at which they differ. The machine covers
-//! the other graph then (`Led`): the groups that differ wait for a finish, and each other one keeps its part. `lead_by` does so by way of a third graph.
+//! `lead_by` leads to another graph by way of a third one, all of as many nodes and places: it follows one edit for each place and each node at which the
+//! graphs differ. The machine covers the other graph then (`Led`): the groups that differ wait for a finish, and each other one keeps its part. Where a graph
+//! differs from the third one (`Differences`) is found once, when a machine is led there; it goes back by that.
 //!
 //! ```text
 //! a machine of the circuit under one fault, and the circuit under the next one: two edits, whatever the circuit's size
@@ -10,6 +11,8 @@
 #![tactic(auto)]
 
 mod comparing;
+mod differing;
 mod leading;
 
-pub use leading::{lead, lead_by};
+pub use differing::Differences;
+pub use leading::lead_by;

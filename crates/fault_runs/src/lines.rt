@@ -115,7 +115,8 @@ fn run_masked<M: PlainStage, L: Lines, A: Analyst>(
         TakesTurn L.hear L.part (masked_reading stuck) cut line session.old.core session.new.core
         (L.heard out.old) (L.heard out.new) (A.analysed analyst.old) (A.analysed analyst.new) result }
 {
-    let Ok(left) = masked(alloc, command, session.circuit(), session.vectors(), stuck) else {
+    let (circuit, vectors) = (session.circuit(), session.vectors());
+    let Ok(left) = masked(alloc, command, circuit, vectors, session.guesses(), stuck) else {
         return Err(Stop::Memory);
     };
     match &left {

@@ -23,9 +23,11 @@ use Rattle.machine_stage.specs.Machines.{StageData}
 use Rattle.machine_stage.proofs.LastLemmas.{cut_off_alone, front_already, last_kept, still_among}
 use Rattle.good_phases.specs.Phases.{GoodData}
 use Rattle.fault_stage.specs.declared.built.Course.{Course}
-use Rattle.fault_stage.specs.Building.{BuildsAnew, BuildsStage, FinishesNext, PutsLast}
+use Rattle.fault_stage.specs.declared.held.Held.{Held}
+use Rattle.fault_stage.specs.declared.held.Held.TheVariants as held
+use Rattle.fault_stage.specs.Building.{BuildsAnew, BuildsStage, FinishesNext, PutsLast, StaysBuilt}
 use Rattle.fault_stage.specs.Runs.{GoesIn}
-use Rattle.fault_stage.specs.Stages.{FaultData, Plain, Ready, ReadyData, ServesIn, ServesReady, StandInFront, Waits, last_in, state_of}
+use Rattle.fault_stage.specs.Stages.{FaultData, Plain, Ready, ReadyData, ServesIn, ServesReady, StandInFront, Waits, data_of, last_in, ready_of, state_of}
 use Rattle.fault_stage.proofs.FrontLemmas.{stands_in_front}
 use Rattle.fault_stage.proofs.KnownLemmas.{known_by_last, known_held}
 
@@ -85,6 +87,14 @@ built_again large g bound ready kept before unbound large_is serves =
     subst (λ (b : Option ℕ). BuildsStage large g b (Ready ready) (Ready ready) kept kept before before (Ok 0)) (sym unbound)
     (built_ready large g None (Ready ready) kept kept before before refl ready 0 (sym serves.graph) large_is refl
     (first_builds large g kept before (subst (λ n. StandFirst n g kept) large_is serves.first)) serves.front)
+
+-- so it is if a build would find nothing new
+pub stays_again : (large : ℕ) (g : GraphData) (k : KeptData) (it : Held) (before : List GroupTextData) → StaysBuilt large k it →
+    ServesIn (data_of it) g (used_texts (last_in (data_of it)) (texts_of k)) → BuildsStage large g k.bound (data_of it) (data_of it) (texts_of k) (texts_of k) before before (Ok 0)
+stays_again large g k (held.Built built) before (alike, unbound) serves =
+    built_again large g k.bound (ready_of built) (texts_of k) before unbound alike (subst (ServesReady (ready_of built) g) (sym (kept_alone (texts_of k))) serves)
+stays_again large g k (held.Whole stage) before none serves = absurd none
+stays_again large g k (held.Waiting waiting) before none serves = absurd none
 
 -- a machine that was built has its texts in front
 pub front_built : (large : ℕ) (g : GraphData) (bound : Option ℕ) (old new before after : List GroupTextData) (count : ℕ) (m : MachineData) → HasLast g m.last →

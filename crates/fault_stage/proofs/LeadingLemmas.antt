@@ -11,7 +11,7 @@ use Rattle.machine_laws.specs.Machines.{MachineData}
 use Rattle.machine_laws.specs.Fitting.{Covers, IsKeptBy}
 use Rattle.machine_laws.specs.Editing.{KeepsCoded}
 use Rattle.unit_step.specs.Restarting.{MarksParts, Restarts}
-use Rattle.edits_between.specs.Leading.{CodedAreAlike, EarlyAreAlike, LedBy, last_in}
+use Rattle.edits_between.specs.Leading.{CodedAreAlike, DifferAt, EarlyAreAlike, LedBy, last_in}
 use Rattle.beside.specs.Fitting.{all_marked}
 use Rattle.beside_run.specs.Running.{HasLater}
 use Rattle.beside_run.proofs.RunningLemmas.{marked_is}
@@ -80,10 +80,13 @@ led_there f g h count state (Some old) new sound covered there ((machine, is, le
     }
 
 -- so it covers the graph that it was led to
-pub last_run_led : (l : LastRun) (base g : GraphData) (count : ℕ) (state : List Tern) → l.graph ≡ g → IsLedIn base g count state l.machine → IsLastRun l
-last_run_led l base g count state graph led covered =
-    subst (λ (slot : Option MachineData). IfSome slot (IsCovered l.graph)) (sym led.there)
-    (subst (λ (f : GraphData). IsCovered f led.machine) (sym graph) led.led.covered)
+pub last_run_led : (l : LastRun) (g : GraphData) (count : ℕ) (state : List Tern) → l.graph ≡ g → IsLedIn l.good.graph g count state l.machine →
+    DifferAt g l.good.graph l.apart → IsLastRun l
+last_run_led l g count state graph led apart covered = record {
+  machine = subst (λ (slot : Option MachineData). IfSome slot (IsCovered l.graph)) (sym led.there)
+      (subst (λ (f : GraphData). IsCovered f led.machine) (sym graph) led.led.covered);
+  apart = subst (λ (f : GraphData). DifferAt f l.good.graph l.apart) (sym graph) apart;
+}
 
 -- the machine that is there was led
 pub led_machine : (base g : GraphData) (count : ℕ) (state : List Tern) (found : Option MachineData) (machine : MachineData) → found ≡ Some machine →

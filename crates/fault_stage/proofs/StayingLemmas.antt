@@ -8,7 +8,9 @@ use Rattle.column_stage.specs.Columns.{AreAmong, with_new_nodes}
 use Rattle.column_stage.proofs.FrontLemmas.{none_missing}
 use Rattle.machine_stage.specs.Machines as whole
 use Rattle.machine_stage.specs.Machines.{StageData}
-use Rattle.fault_stage.specs.Stages.{EditsStage, Plain, Ready, ReadyData, ServesIn, ServesReady, StandInFront, StaysOn, WaitData, Waits}
+use Rattle.fault_stage.specs.declared.held.Held.{Held}
+use Rattle.fault_stage.specs.declared.held.Held.TheVariants as held
+use Rattle.fault_stage.specs.Stages.{EditsStage, Plain, Ready, ReadyData, ServesIn, ServesReady, StandInFront, StaysOn, WaitData, Waits, WaitsOn, data_of, last_in, wait_of}
 
 -- one that is built, in another state
 pub ready_moved : (g : GraphData) (old new : ReadyData) (state : List Tern) → new ≡ record old { state = state } → StaysOn g (Ready old) (Ready new)
@@ -48,3 +50,12 @@ waits_edited g before old new kept state same serves = record {
   last = none_missing kept;
   serves = subst (λ (texts : List GroupTextData). StandInFront texts (used_texts [] kept)) (sym same) serves;
 }
+
+pub waits_followed : (g before : GraphData) (old new : Held) (kept : List GroupTextData) → WaitsOn g old new →
+    ServesIn (data_of old) before (used_texts (last_in (data_of old)) kept) → EditsStage g (data_of old) (data_of new) kept kept
+waits_followed g before (held.Waiting old) (held.Waiting new) kept (state, same) serves =
+    waits_edited g before (wait_of old) (wait_of new) kept state same serves
+waits_followed g before (held.Waiting old) (held.Whole new) kept none serves = absurd none
+waits_followed g before (held.Waiting old) (held.Built new) kept none serves = absurd none
+waits_followed g before (held.Whole old) new kept none serves = absurd none
+waits_followed g before (held.Built old) new kept none serves = absurd none

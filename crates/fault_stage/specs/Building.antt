@@ -1,5 +1,5 @@
 -- What a build makes of a stage whose first run is recorded.
-use Rattle.std.specs.Prelude.{◌≡◌, ◌≢◌, ◌⊎◌, ℕ, List, Option, Result, Err, IfOk, OnOk, OnErr}
+use Rattle.std.specs.Prelude.{◌≡◌, ◌≢◌, ◌⊎◌, ℕ, List, Option, None, Result, Err, IfOk, OnOk, OnErr}
 use Rattle.ternary.specs.declared.tern.Tern.{Tern}
 use Rattle.switch_paths.specs.Graphs.{GraphData}
 use Rattle.group_text.specs.Texts.{GroupTextData}
@@ -15,6 +15,8 @@ use Rattle.machine_stage.specs.Machines as whole
 use Rattle.machine_stage.specs.Machines.{StageData}
 use Rattle.good_phases.specs.Phases.{BeginsGood, GoodData}
 use Rattle.fault_stage.specs.declared.built.Course.{Course}
+use Rattle.fault_stage.specs.declared.held.Held.{Held}
+use Rattle.fault_stage.specs.declared.held.Held.TheVariants as held
 use Rattle.fault_stage.specs.Runs.{GoesIn}
 use Rattle.fault_stage.specs.Stages.{FaultData, FitsIn, ServesIn, StandInFront, last_in, state_of}
 
@@ -29,6 +31,12 @@ pub record BuildsStage (large : ℕ) (g : GraphData) (bound : Option ℕ) (old n
   pub last : AreAmong (last_in new) later
   pub cut_off : result ≡ Err NoMemory → IsCutOff large g (used_texts (last_in old) kept) (used_texts (last_in new) later) before after
   pub err : OnErr result (new ≡ old)
+
+-- a stage is built, with up to so many members in a group without a text, and what is kept has no bound: a build would find nothing new
+abbrev pub StaysBuilt : ℕ → KeptData → Held → Type 0
+StaysBuilt large kept (held.Whole stage) = ⊥
+StaysBuilt large kept (held.Built built) = (built.large ≡ large) × (kept.bound ≡ None)
+StaysBuilt large kept (held.Waiting waiting) = ⊥
 
 -- a whole stage was built from a state
 pub record BuildsAnew (large : ℕ) (g : GraphData) (bound : Option ℕ) (state : List Tern) (kept later before after : List GroupTextData) (stage : StageData)

@@ -7,7 +7,7 @@ use Rattle.switch_paths.specs.Rails.{IsRailed, IsSound}
 use Rattle.vicinity.specs.NodeSets.{NodeSetData}
 use Rattle.machine_laws.specs.Machines.{MachineData}
 use Rattle.machine_laws.specs.Fitting.{Covers, FitsGraph, IsKeptBy}
-use Rattle.edits_between.specs.Leading.{CodedAreAlike, EarlyAreAlike}
+use Rattle.edits_between.specs.Leading.{CodedAreAlike, DifferAt, EarlyAreAlike}
 use Rattle.good_phases.specs.declared.beats.Beat.{Beat}
 use Rattle.good_phases.specs.Phases.{GoodData, IsBeat}
 use Rattle.beside_run.specs.Running.{AreAlikeBut, BesideData, ComesNext, IsRunBeside}
@@ -45,6 +45,7 @@ pub record IsBuilt (b : Built) : Type 0 where
   pub known : IsKeptBy b.graph b.machine.last b.machine
   pub goes : GoesIn b.good b.graph b.machine b.state.items b.course
   pub passes : All (IsPassed b.graph) b.passes.items
+  pub apart : DifferAt b.graph b.good.graph b.apart
 
 -- a machine covers a graph, in a sound state, and each text whose code a part has is one of its last build
 pub record IsCovered (g : GraphData) (m : MachineData) : Type 0 where
@@ -52,9 +53,14 @@ pub record IsCovered (g : GraphData) (m : MachineData) : Type 0 where
   pub known : IsKeptBy g m.last m
   pub sound : IsSound m.state
 
+-- the machine of the last run covers its graph, if there is one, and it is known where that graph differs from the good run's
+pub record IsHeld (l : LastRun) : Type 0 where
+  pub machine : IfSome l.machine (IsCovered l.graph)
+  pub apart : DifferAt l.graph l.good.graph l.apart
+
 -- what a stage that waits keeps of its last run, unless an edit of the machine lacked memory
 abbrev pub IsLastRun : LastRun → Type 0
-IsLastRun l = l.covered ≡ true → IfSome l.machine (IsCovered l.graph)
+IsLastRun l = l.covered ≡ true → IsHeld l
 
 -- what is held is as it is to be
 abbrev pub IsWell : Held → Type 0

@@ -143,6 +143,11 @@ pub record EditsStage (g : GraphData) (old new : FaultData) (kept later : List G
   pub last : AreAmong (last_in new) later
   pub serves : ServesIn new g (used_texts (last_in old) kept)
 
+-- a stage that waits went on waiting after an edit of the graph: each new node is X
+abbrev pub WaitsOn : GraphData → Held → Held → Type 0
+WaitsOn g (held.Waiting old) (held.Waiting new) = (new.state.items ≡ with_new_nodes old.state.items (nodes g)) × (texts_held new.last_run ≡ texts_held old.last_run)
+WaitsOn g old new = ⊥
+
 -- a state settles, and an observer saw the states that it passed through
 pub record SettlesSeen {S : Type 0} (see : S → List Tern → S) (g : GraphData) (limit steps : ℕ) (joined : Bool) (old new : List Tern) (before after : S) :
     Type 0 where

@@ -2,10 +2,7 @@
 
 ghost use Rattle.std.specs.Prelude.{◌≡◌, length, IfSome};
 ghost use Rattle.std.specs.Bool.{OnTrue};
-ghost use Rattle.switch_paths.specs.Rails.{IsSound};
-ghost use Rattle.machine_laws.specs.Fitting.{FitsGraph};
-ghost use Rattle.machine_laws.specs.Machines.{KeepsBuild, KeepsParts};
-ghost use Rattle.beside_run.specs.Running.{HasLater};
+ghost use Rattle.fault_stage.specs.Words.{IsSound, FitsGraph, KeepsBuild, KeepsParts, HasLater};
 ghost use Rattle.fault_stage.specs.Runs.{GoesIn, IsTouched};
 
 use crate::built::Course;

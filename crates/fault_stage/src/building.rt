@@ -2,14 +2,8 @@
 
 ghost use Rattle.std.specs.Prelude.{◌≡◌, ◌⊎◌, true, Err, None, Some, IfErr, IfOk, IfSome, OnErr};
 ghost use Rattle.std.specs.Bool.{OnTrue};
-ghost use Rattle.switch_paths.specs.Rails.{IsRailed};
-ghost use Rattle.group_analysis.specs.Using.{used_texts};
-ghost use Rattle.analysis_cache.specs.Keeping.{texts_of};
-ghost use Rattle.circuit_texts.specs.Building.{IsCutOff};
-ghost use Rattle.circuit_texts.specs.Sizes.{TellsRefused};
-ghost use Rattle.column_stage.specs.Columns.{AreAmong, IsSoundState};
-ghost use Rattle.good_phases.specs.Phases.{BeginsGood};
-ghost use Rattle.fault_stage.specs.Building.{BeginsGoodIn, BuildsAnew, BuildsStage, FinishesNext, PutsLast};
+ghost use Rattle.fault_stage.specs.Words.{IsRailed, used_texts, texts_of, IsCutOff, TellsRefused, AreAmong, IsSoundState, DifferAt, BeginsGood};
+ghost use Rattle.fault_stage.specs.Building.{BeginsGoodIn, BuildsAnew, BuildsStage, FinishesNext, PutsLast, StaysBuilt};
 ghost use Rattle.fault_stage.specs.Runs.{IsBuilt, IsCovered, IsLastRun, IsLed, IsWell};
 ghost use Rattle.fault_stage.specs.Stages.{Plain, Ready, ServesIn, ServesReady, StandInFront, Waits, data_of, last_in, ready_of, state_of, texts_held, texts_in, wait_of};
 
@@ -21,9 +15,11 @@ use crate::waiting::{LastRun, Waiting};
 use analysis_cache::{Analyst, Kept};
 use circuit_texts::BuildFault;
 use column_stage::{Columns, PlainStage};
+use edits_between::Differences;
 use good_phases::GoodPhases;
 use machine_stage::MachineStage;
 use std::alloc::Global;
+use std::mem;
 use switch_paths::Graph;
 use ternary::{NoMemory, Tern};
 use unit_step::{Codes, Machine};
@@ -31,8 +27,48 @@ use unit_step::{Codes, Machine};
 // How many parts a machine may always have that groups left which are gone.
 const MOST_LEFT: usize = 16;
 
-/// Builds what is held, and answers what is held then.
-pub(crate) fn build_held<A: Analyst>(
+/// Whether a stage is built already, and a build would find nothing new.
+pub(crate) fn stays_built(held: &Held, large: usize, kept: &Kept) -> bool
+    ensures { OnTrue result (StaysBuilt large kept.now held.now) }
+{
+    match held {
+        Held::Whole(_) => false,
+        Held::Built(built) => is_again(large, built.large, kept),
+        Held::Waiting(_) => false,
+    }
+}
+
+/// Builds what is held in its place. It stands by itself: what is held is large, and the room for it is cleared where it is moved, which a
+/// stage that stays built is spared at each phase.
+#[inline(never)]
+pub(crate) fn build_in<A: Analyst>(
+    alloc: Global,
+    slot: &mut Held,
+    graph: &Graph,
+    large: usize,
+    kept: &mut Kept,
+    analyst: &mut A,
+) -> Result<u64, BuildFault>
+    requires well { IsWell slot.old }
+    requires railed { IsRailed graph.now }
+    requires sound { IsSoundState graph.now (state_of (data_of slot.old)) }
+    requires serves { ServesIn (data_of slot.old) graph.now (used_texts (last_in (data_of slot.old)) (texts_of kept.old)) }
+    requires last { AreAmong (last_in (data_of slot.old)) (texts_of kept.old) }
+    ensures well { IsWell slot.new }
+    ensures builds { BuildsStage large graph.now kept.old.bound (data_of slot.old) (data_of slot.new) (texts_of kept.old) (texts_of kept.new) (A.analysed analyst.old) (A.analysed analyst.new) result }
+    ensures bound { kept.new.bound ≡ kept.old.bound }
+    ensures refused { IfErr result (λ fault. (fault ≡ BuildFault.NoMemory)
+        ⊎ (TellsRefused large graph.now fault × (kept.new ≡ kept.old) × (A.analysed analyst.new ≡ A.analysed analyst.old))) }
+{
+    let none = Held::Whole(MachineStage::still(Vec::new(alloc)));
+    let held = mem::replace(slot, none);
+    let (held, told) = build_held(alloc, held, graph, large, kept, analyst);
+    *slot = held;
+    told
+}
+
+// Builds what is held, and answers what is held then.
+fn build_held<A: Analyst>(
     alloc: Global,
     held: Held,
     graph: &Graph,
@@ -206,6 +242,7 @@ fn build_recorded<A: Analyst>(
                 graph,
                 state,
                 good,
+                apart: Differences::none(alloc),
                 large,
                 course: Course::Recorded,
                 passes: no_passes(alloc),
@@ -264,16 +301,19 @@ fn build_next<A: Analyst>(
         machine,
         graph: own,
         good,
+        apart,
         ..
     } = last_run;
     let Some(machine) = machine else {
         unreachable!();
     };
     if is_sparse(&machine) {
-        return build_fresh(alloc, state, machine, own, good, large, kept, analyst);
+        return build_fresh(
+            alloc, state, machine, own, good, apart, large, kept, analyst,
+        );
     }
     finish(
-        alloc, state, machine, own, good, large, count, kept, analyst,
+        alloc, state, machine, own, good, apart, large, count, kept, analyst,
     )
 }
 
@@ -290,16 +330,18 @@ fn build_fresh<A: Analyst>(
     machine: Machine,
     graph: Graph,
     good: GoodPhases,
+    apart: Differences,
     large: usize,
     kept: &mut Kept,
     analyst: &mut A,
 ) -> (Held, Result<u64, BuildFault>)
     requires covered { IsCovered graph machine }
+    requires apart { DifferAt graph good.graph apart }
     requires railed { IsRailed graph }
     requires sound { IsSoundState graph state.items }
     requires front { StandInFront machine.last (texts_of kept.old) }
     ensures well { IsWell result.0 }
-    ensures builds { BuildsStage large graph kept.old.bound (Waits (wait_of (record { state = state; last_run = Some (record { machine = Some machine; covered = true; graph = graph; good = good }) })))
+    ensures builds { BuildsStage large graph kept.old.bound (Waits (wait_of (record { state = state; last_run = Some (record { machine = Some machine; covered = true; graph = graph; good = good; apart = apart }) })))
         (data_of result.0) (texts_of kept.old) (texts_of kept.new) (A.analysed analyst.old) (A.analysed analyst.new) result.1 }
     ensures bound { kept.new.bound ≡ kept.old.bound }
     ensures refused { IfErr result.1 (λ fault. (fault ≡ BuildFault.NoMemory)
@@ -312,6 +354,7 @@ fn build_fresh<A: Analyst>(
                 graph,
                 state,
                 good,
+                apart,
                 large,
                 course: Course::Alone,
                 passes: no_passes(alloc),
@@ -324,6 +367,7 @@ fn build_fresh<A: Analyst>(
                 covered: true,
                 graph,
                 good,
+                apart,
             };
             let waiting = Waiting {
                 state,
@@ -341,17 +385,19 @@ fn finish<A: Analyst>(
     machine: Machine,
     graph: Graph,
     good: GoodPhases,
+    apart: Differences,
     large: usize,
     count: usize,
     kept: &mut Kept,
     analyst: &mut A,
 ) -> (Held, Result<u64, BuildFault>)
     requires led { IsLed good.graph graph count state.items machine }
+    requires apart { DifferAt graph good.graph apart }
     requires railed { IsRailed graph }
     requires sound { IsSoundState graph state.items }
     requires front { StandInFront machine.last (texts_of kept.old) }
     ensures well { IsWell result.0 }
-    ensures builds { BuildsStage large graph kept.old.bound (Waits (wait_of (record { state = state; last_run = Some (record { machine = Some machine; covered = true; graph = graph; good = good }) })))
+    ensures builds { BuildsStage large graph kept.old.bound (Waits (wait_of (record { state = state; last_run = Some (record { machine = Some machine; covered = true; graph = graph; good = good; apart = apart }) })))
         (data_of result.0) (texts_of kept.old) (texts_of kept.new) (A.analysed analyst.old) (A.analysed analyst.new) result.1 }
     ensures bound { kept.new.bound ≡ kept.old.bound }
     ensures refused { IfErr result.1 (λ fault. (fault ≡ BuildFault.NoMemory)
@@ -375,6 +421,7 @@ fn finish<A: Analyst>(
                 graph,
                 state,
                 good,
+                apart,
                 large,
                 course,
                 passes: no_passes(alloc),
@@ -387,6 +434,7 @@ fn finish<A: Analyst>(
                 covered: true,
                 graph,
                 good,
+                apart,
             };
             let waiting = Waiting {
                 state,

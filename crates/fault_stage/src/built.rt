@@ -2,14 +2,8 @@
 
 ghost use Rattle.std.specs.Prelude.{◌≡◌, ℕ, ◌-◌, ◌<◌, ◌≤◌, List, length, slice_set, vec_capacity, vec_len, IfSome, OnOk};
 ghost use Rattle.switch_paths.specs.declared.TheConstants.{RAILS};
-ghost use Rattle.switch_paths.specs.Step.{IsStep};
-ghost use Rattle.settling.specs.Passing.{SteppingThrough};
-ghost use Rattle.channel_groups.specs.Grouping.{AreOf};
-ghost use Rattle.group_text.specs.FirstTexts.{first_texts};
-ghost use Rattle.group_text.specs.Texts.{GroupTextData};
-ghost use Rattle.circuit_texts.specs.Building.{HasTexts};
+ghost use Rattle.fault_stage.specs.Words.{IsStep, SteppingThrough, AreOf, first_texts, GroupTextData, HasTexts, SeesStates};
 ghost use Rattle.column_stage.specs.declared.TheConstants.{NEW_NODES};
-ghost use Rattle.column_stage.specs.Seeing.{SeesStates};
 ghost use Rattle.fault_stage.specs.Runs.{IsBuilt, IsLastRun};
 ghost use Rattle.fault_stage.specs.Stages.{SettlesSeen, ready_of, texts_in};
 
@@ -21,6 +15,7 @@ use crate::waiting::LastRun;
 use beside_run::RunBeside;
 use channel_groups::Groups;
 use column_stage::NEW_NODES;
+use edits_between::Differences;
 use good_phases::GoodPhases;
 use machine_stage::take_step;
 use settling::{MOST_LIMIT, Onlooker, Settled};
@@ -46,6 +41,8 @@ pub(crate) struct Built {
     // The state that is meant: the machine's, but beside a good run nodes that were given states since the last phase lag there.
     pub(crate) state: Vec<Tern>,
     pub(crate) good: GoodPhases,
+    // Where the graph differs from the good run's.
+    pub(crate) apart: Differences,
     // Up to how many members groups without a text might have at the build.
     pub(crate) large: usize,
     pub(crate) course: Course,
@@ -167,6 +164,7 @@ impl Built {
             mut machine,
             graph,
             good,
+            apart,
             ..
         } = self;
         machine.has_a_mark_for_each_part();
@@ -176,6 +174,7 @@ impl Built {
             covered: true,
             graph,
             good,
+            apart,
         }
     }
 }

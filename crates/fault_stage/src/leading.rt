@@ -2,16 +2,12 @@
 
 ghost use Rattle.std.specs.Prelude.{◌≡◌, ◌≢◌, true, length, IfSome};
 ghost use Rattle.std.specs.Bool.{OnTrue};
-ghost use Rattle.switch_paths.specs.Graphs.{nodes};
-ghost use Rattle.switch_paths.specs.Rails.{IsSound};
-ghost use Rattle.column_stage.specs.Columns.{IsSoundState};
-ghost use Rattle.machine_laws.specs.Fitting.{Covers};
-ghost use Rattle.edits_between.specs.Leading.{IsAsLarge, LedBy, last_in};
+ghost use Rattle.fault_stage.specs.Words.{nodes, IsSound, IsSoundState, Covers, DifferAt, IsAsLarge, LedBy, last_in};
 ghost use Rattle.fault_stage.specs.Runs.{IsCovered, IsCoveredIn, IsLastRun, IsLedIn};
 ghost use Rattle.fault_stage.specs.Stages.{texts_in};
 
 use crate::waiting::LastRun;
-use edits_between::lead_by;
+use edits_between::{Differences, lead_by};
 use std::marker::Brand;
 use std::sync::ledger::{Blank, Ledger};
 use switch_paths::Graph;
@@ -27,6 +23,7 @@ impl LastRun {
         ensures last_run { IsLastRun self.new }
         ensures led { OnTrue result (IsLedIn self.new.good.graph graph.now count.new state.now self.new.machine) }
         ensures graph { OnTrue result (self.new.graph ≡ graph.now) }
+        ensures apart { OnTrue result (DifferAt self.new.graph self.new.good.graph self.new.apart) }
         ensures texts { texts_in self.new.machine ≡ texts_in self.old.machine }
     {
         if !self.can_lead(graph) {
@@ -39,6 +36,7 @@ impl LastRun {
             self.good.graph(),
             graph,
             state,
+            &mut self.apart,
             count,
         ) {
             return false;
@@ -73,18 +71,21 @@ fn lead_in(
     way: &Graph,
     target: &Graph,
     state: &[Tern],
+    apart: &mut Differences,
     count: &mut usize,
 ) -> bool
     requires covered { IfSome slot.old (IsCovered graph.old) }
     requires there { IsAsLarge graph.old way.now }
     requires large { IsAsLarge way.now target.now }
     requires sound { IsSoundState target.now state.now }
+    requires apart { DifferAt graph.old way.now apart.old }
     ensures led { OnTrue result (IsLedIn way.now target.now count.new state.now slot.new) }
     ensures graph { OnTrue result (graph.new ≡ target.now) }
+    ensures apart { OnTrue result (DifferAt target.now way.now apart.new) }
     ensures texts { texts_in slot.new ≡ texts_in slot.old }
 {
     restart_in(slot, graph, state);
-    if !lead_uncounted::<Brand>(slot, graph, way, target, count, Blank::new(1)) {
+    if !lead_uncounted::<Brand>(slot, graph, way, target, apart, count, Blank::new(1)) {
         return false;
     }
     slot.is_some()
@@ -110,6 +111,7 @@ fn lead_uncounted<L: Ledger>(
     graph: &mut Graph,
     way: &Graph,
     target: &Graph,
+    apart: &mut Differences,
     count: &mut usize,
     blank: Blank,
 ) -> bool
@@ -119,9 +121,19 @@ fn lead_uncounted<L: Ledger>(
     requires covers { IfSome slot.old (Covers graph.old) }
     requires there { IsAsLarge graph.old way.now }
     requires large { IsAsLarge way.now target.now }
+    requires apart { DifferAt graph.old way.now apart.old }
     ensures led { OnTrue result (LedBy graph.old way.now target.now count.new slot.old slot.new) }
     ensures graph { OnTrue result (graph.new ≡ target.now) }
+    ensures apart { OnTrue result (DifferAt target.now way.now apart.new) }
     ensures last { last_in slot.new ≡ last_in slot.old }
 {
-    lead_by(slot, graph, way, target, count, &mut Steps::<L>::new(blank))
+    lead_by(
+        slot,
+        graph,
+        way,
+        target,
+        apart,
+        count,
+        &mut Steps::<L>::new(blank),
+    )
 }

@@ -1,17 +1,13 @@
 //! What is done to what a stage holds: it takes room, states that are set, unit steps, and phases.
 
-ghost use Rattle.std.specs.Prelude.{◌≡◌, ◌-◌, ◌<◌, ◌≤◌, List, length, slice_index_or, slice_set, vec_capacity, vec_len, OnOk};
+ghost use Rattle.std.specs.Prelude.{◌≡◌, ◌+◌, ◌-◌, ◌<◌, ◌≤◌, List, length, slice_index_or, slice_set, vec_capacity, vec_len, OnOk};
+ghost use Rattle.std.specs.Bool.{OnFalse, OnTrue};
 ghost use Rattle.switch_paths.specs.declared.TheConstants.{RAILS};
-ghost use Rattle.switch_paths.specs.Graphs.{GraphData, nodes};
-ghost use Rattle.switch_paths.specs.Step.{IsStep};
+ghost use Rattle.fault_stage.specs.Words.{GraphData, nodes, IsStep, SteppingThrough, GroupTextData, IsSoundState, letter_in, SeesStates};
 ghost use Rattle.settling.specs.declared.settling.Settled.{Settled};
-ghost use Rattle.settling.specs.Passing.{SteppingThrough};
-ghost use Rattle.group_text.specs.Texts.{GroupTextData};
 ghost use Rattle.column_stage.specs.declared.TheConstants.{NEW_NODES};
-ghost use Rattle.column_stage.specs.Columns.{IsSoundState, letter_in};
-ghost use Rattle.column_stage.specs.Seeing.{SeesStates};
 ghost use Rattle.fault_stage.specs.Runs.{IsWell};
-ghost use Rattle.fault_stage.specs.Stages.{FitsIn, Plain, ServesIn, SettlesSeen, StaysOn, data_of, last_in, spare_in, state_of};
+ghost use Rattle.fault_stage.specs.Stages.{FitsIn, Plain, ServesIn, SettlesSeen, StaysOn, WaitsOn, data_of, last_in, spare_in, state_of};
 
 use crate::held::Held;
 use column_stage::{Columns, NEW_NODES, Stage};
@@ -19,6 +15,7 @@ use machine_stage::MachineStage;
 use settling::{MOST_LIMIT, Onlooker, Settled};
 use switch_paths::{Graph, RAILS};
 use ternary::{NoMemory, Tern};
+use unit_step::grow;
 
 /// Takes room for the states of as many new nodes as one edit makes at most.
 pub(crate) fn make_room(held: &mut Held) -> Result<(), NoMemory>
@@ -33,6 +30,24 @@ pub(crate) fn make_room(held: &mut Held) -> Result<(), NoMemory>
         Held::Whole(stage) => stage.reserve(),
         Held::Built(built) => built.take_room(),
         Held::Waiting(waiting) => room_in(&mut waiting.state),
+    }
+}
+
+/// Follows an edit of the graph, if the stage waits for its build: each new node is X, in room that is there. Answers whether it waits.
+pub(crate) fn wait_on(held: &mut Held, graph: &Graph) -> bool
+    requires well { IsWell held.old }
+    requires room { nodes graph.now ≤ length (state_of (data_of held.old)) + spare_in (data_of held.old) }
+    ensures well { IsWell held.new }
+    ensures waits { OnTrue result (WaitsOn graph.now held.old held.new) }
+    ensures same { OnFalse result (held.new ≡ held.old) }
+{
+    match held {
+        Held::Whole(_) => false,
+        Held::Built(_) => false,
+        Held::Waiting(waiting) => {
+            grow(&mut waiting.state, graph.nodes());
+            true
+        }
     }
 }
 

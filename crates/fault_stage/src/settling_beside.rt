@@ -2,10 +2,7 @@
 
 ghost use Rattle.std.specs.Prelude.{◌≡◌, ◌≢◌, ◌+◌, ◌-◌, ◌^◌, ◌<◌, ◌≤◌, length, All, IfSome};
 ghost use Rattle.std.specs.Bool.{OnTrue};
-ghost use Rattle.switch_paths.specs.Rails.{IsSound};
-ghost use Rattle.machine_laws.specs.Fitting.{FitsGraph};
-ghost use Rattle.beside_run.specs.Running.{IsRunBeside, SettlesRun};
-ghost use Rattle.good_phases.specs.Phases.{IsBeat, SettlesGood};
+ghost use Rattle.fault_stage.specs.Words.{IsSound, FitsGraph, IsRunBeside, SettlesRun, IsBeat, SettlesGood};
 ghost use Rattle.fault_stage.specs.Passing.{IsPassed};
 ghost use Rattle.fault_stage.specs.Runs.{GoesIn, GoesRecorded, SettlesIn, TakesNext};
 
@@ -52,6 +49,7 @@ pub(crate) fn settle_in<O: Onlooker>(
     requires knows { O.knows onlooker.old state.now }
     ensures settles { SettlesIn O.see graph.now limit result.1.steps result.1.joined state.now machine.old machine.new good.new result.0 (O.seen onlooker.old) (O.seen onlooker.new) }
     ensures passes { All (IsPassed graph.now) passes.new.items }
+    ensures good { good.new.graph ≡ good.old.graph }
     ensures knows { O.knows onlooker.new machine.new.state }
 {
     match course {
@@ -80,6 +78,7 @@ fn settle_recorded<O: Onlooker>(
     requires high { limit ≤ MOST_LIMIT }
     requires knows { O.knows onlooker.old state.now }
     ensures settles { SettlesIn O.see graph.now limit result.1.steps result.1.joined state.now machine.old machine.new good.new result.0 (O.seen onlooker.old) (O.seen onlooker.new) }
+    ensures good { good.new.graph ≡ good.old.graph }
     ensures knows { O.knows onlooker.new machine.new.state }
 {
     if !is_recorded(limit, machine.state().len()) {

@@ -2,29 +2,18 @@
 
 ghost use Rattle.std.specs.Prelude.{◌≡◌, ◌⊎◌, ℕ, ◌+◌, ◌<◌, ◌≤◌, List, [], length, slice_set, vec_capacity, IfErr, IfSome, OnOk};
 ghost use Rattle.switch_paths.specs.declared.TheConstants.{RAILS};
-ghost use Rattle.switch_paths.specs.Graphs.{GraphData, nodes};
-ghost use Rattle.switch_paths.specs.Rails.{IsRailed};
-ghost use Rattle.switch_paths.specs.Step.{IsStep};
-ghost use Rattle.settling.specs.Passing.{SteppingThrough};
-ghost use Rattle.channel_groups.specs.Grouping.{AreOf};
-ghost use Rattle.group_text.specs.FirstTexts.{first_texts};
-ghost use Rattle.group_text.specs.Texts.{GroupTextData};
-ghost use Rattle.group_analysis.specs.Using.{used_texts};
-ghost use Rattle.analysis_cache.specs.Keeping.{texts_of};
-ghost use Rattle.circuit_texts.specs.Building.{HasTexts};
-ghost use Rattle.circuit_texts.specs.Sizes.{TellsRefused};
+ghost use Rattle.fault_stage.specs.Words.{GraphData, nodes, IsStep, SteppingThrough, AreOf, first_texts, GroupTextData};
+ghost use Rattle.fault_stage.specs.Words.{used_texts, texts_of, HasTexts, AreAmong, IsSoundState, letter_in, with_new_nodes};
+ghost use Rattle.fault_stage.specs.Words.{IsUndone, IsRailed, TellsRefused, SeesStates};
 ghost use Rattle.column_stage.specs.declared.TheConstants.{NEW_NODES};
-ghost use Rattle.column_stage.specs.Columns.{AreAmong, IsSoundState, letter_in, with_new_nodes};
-ghost use Rattle.column_stage.specs.Edits.{IsUndone};
-ghost use Rattle.column_stage.specs.Seeing.{SeesStates};
 ghost use Rattle.fault_stage.specs.Building.{BuildsStage};
 ghost use Rattle.fault_stage.specs.Runs.{IsWell};
 ghost use Rattle.fault_stage.specs.Stages.{EditsStage, FitsIn, IsAtStart, Plain, ServesIn, SettlesSeen, StaysOn, data_of, last_in, spare_in, state_of};
 
-use crate::building::build_held;
+use crate::building::{build_in, stays_built};
 use crate::built::Built;
 use crate::held::Held;
-use crate::moving::{make_room, put_held, settle_held, step_held};
+use crate::moving::{make_room, put_held, settle_held, step_held, wait_on};
 use crate::waiting::Waiting;
 use analysis_cache::{Analyst, Kept};
 use channel_groups::{Change, Groups};
@@ -119,9 +108,10 @@ impl FaultStage {
         ensures edits { EditsStage graph.now self.old self.new (texts_of kept.old) (texts_of kept.new) }
         ensures bound { kept.new.bound ≡ kept.old.bound }
     {
-        let none = Held::Whole(MachineStage::still(Vec::new(alloc)));
-        let held = mem::replace(&mut self.held, none);
-        self.held = edited(alloc, held, graph, change, kept);
+        if wait_on(&mut self.held, graph) {
+            return;
+        }
+        edit_in(alloc, &mut self.held, graph, change, kept);
     }
 
     /// Gets what takes steps of the graph.
@@ -142,11 +132,10 @@ impl FaultStage {
         ensures refused { IfErr result (λ fault. (fault ≡ BuildFault.NoMemory)
             ⊎ (TellsRefused large graph.now fault × (kept.new ≡ kept.old) × (A.analysed analyst.new ≡ A.analysed analyst.old))) }
     {
-        let none = Held::Whole(MachineStage::still(Vec::new(alloc)));
-        let held = mem::replace(&mut self.held, none);
-        let (held, told) = build_held(alloc, held, graph, large, kept, analyst);
-        self.held = held;
-        told
+        if stays_built(&self.held, large, kept) {
+            return Ok(0);
+        }
+        build_in(alloc, &mut self.held, graph, large, kept, analyst)
     }
 
     /// Moves the texts of the last build to the front of what is kept, where those of a machine that is recorded, or goes beside the record, stand
@@ -262,6 +251,22 @@ fn again(held: Held, state: Vec<Tern>) -> Held
             last_run: waiting.last_run,
         }),
     }
+}
+
+// What is held follows an edit of the graph in its place. It stands by itself, as `build_in` does.
+#[inline(never)]
+fn edit_in(alloc: Global, slot: &mut Held, graph: &Graph, change: &Change, kept: &mut Kept)
+    requires well { IsWell slot.old }
+    requires before { (before : GraphData) × IsUndone before graph.now change.now × IsSoundState before (state_of (data_of slot.old))
+        × (nodes graph.now ≤ nodes before + spare_in (data_of slot.old)) × ServesIn (data_of slot.old) before (used_texts (last_in (data_of slot.old)) (texts_of kept.old)) }
+    requires last { AreAmong (last_in (data_of slot.old)) (texts_of kept.old) }
+    ensures well { IsWell slot.new }
+    ensures edits { EditsStage graph.now (data_of slot.old) (data_of slot.new) (texts_of kept.old) (texts_of kept.new) }
+    ensures bound { kept.new.bound ≡ kept.old.bound }
+{
+    let none = Held::Whole(MachineStage::still(Vec::new(alloc)));
+    let held = mem::replace(slot, none);
+    *slot = edited(alloc, held, graph, change, kept);
 }
 
 // What is held after an edit of the graph.

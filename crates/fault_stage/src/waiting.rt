@@ -1,5 +1,6 @@
 //! A stage that waits for its build.
 
+use edits_between::Differences;
 use good_phases::GoodPhases;
 use switch_paths::Graph;
 use ternary::Tern;
@@ -13,6 +14,8 @@ pub(crate) struct LastRun {
     pub(crate) covered: bool,
     pub(crate) graph: Graph,
     pub(crate) good: GoodPhases,
+    // Where the graph differs from the good run's, if the machine covers it.
+    pub(crate) apart: Differences,
 }
 
 /// The state of each node, and what there is of the last run; if there was none, the next one is recorded.

@@ -3,12 +3,20 @@ use Rattle.std.proofs.Common.{subst, ◌∙◌}
 use Rattle.std.proofs.lemmas.Bool.{OnTrue_at, OnTrue_from}
 use Rattle.edits_between.specs.Leading.{LedIn}
 use Rattle.edits_between.proofs.LeadingLemmas.{covers_there, led_in_then}
-use Rattle.edits_between.proofs.ReachingLemmas.{both_reached}
+use Rattle.edits_between.proofs.ReachingLemmas.{both_reached, levels_differ_on}
 use Rattle.edits_between.proofs.leading.lead.Goals as goal
 
 pub lead_levels-requires-clause-covers : goal.lead_levels-requires-clause-covers
 lead_levels-requires-clause-covers g c =
     covers_there c.args.graph.now c.lead_places.new.graph c.args.slot.now c.lead_places.new.slot (OnTrue_at c.if-not-lead_places.false c.lead_places.ensures.led)
+
+pub lead_places-requires-clause-same : goal.lead_places-requires-clause-same
+lead_places-requires-clause-same g c = c.requires.apart.by_place
+
+pub lead_levels-requires-clause-same : goal.lead_levels-requires-clause-same
+lead_levels-requires-clause-same g c =
+    levels_differ_on c.args.graph.now c.args.target.now c.lead_places.new.graph c.args.apart.now.nodes.items
+    (OnTrue_at c.if-not-lead_places.false c.lead_places.ensures.places) c.requires.apart.by_node
 
 pub returns-clause-led : goal.returns-clause-led
 returns-clause-led g c =

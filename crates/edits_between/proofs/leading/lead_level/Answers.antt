@@ -1,7 +1,7 @@
 -- The graph before the edit is the one that was there.
 use Rattle.std.proofs.Common.{◌≡◌, ◌<◌, length, None, Some, sym, ap, subst, ◌∙◌}
 use Rattle.std.specs.Bool.{OnTrue}
-use Rattle.std.proofs.lemmas.Bool.{OnTrue_at}
+use Rattle.std.proofs.lemmas.Bool.{OnFalse_at, OnTrue_at}
 use Rattle.std.specs.Prelude.{IfSome, slice_set}
 use Rattle.std.proofs.lemmas.List.{length-set}
 use Rattle.switch_paths.specs.Graphs.{GraphData, IsWired, nodes}
@@ -9,21 +9,27 @@ use Rattle.channel_groups.specs.Changes.{undo}
 use Rattle.machine_laws.specs.Fitting.{Covers}
 use Rattle.edits_between.specs.Leading.{LedIn}
 use Rattle.edits_between.proofs.LeadingLemmas.{led_in_none, undo_level}
-use Rattle.edits_between.proofs.ReachingLemmas.{level_stays}
+use Rattle.edits_between.proofs.ReachingLemmas.{level_past}
 use Rattle.edits_between.proofs.leading.lead_level.Given.{Over}
 use Rattle.edits_between.proofs.leading.lead_level.Goals.{After-set_level}
 use Rattle.edits_between.proofs.leading.lead_level.Goals as goal
 
+pub returns-then-not-has_node-clause-led : goal.returns-then-not-has_node-clause-led
+returns-then-not-has_node-clause-led g c = led_in_none c.args.graph.now c.args.slot.now c.requires.covers
+
+pub returns-then-not-has_node-clause-put : goal.returns-then-not-has_node-clause-put
+returns-then-not-has_node-clause-put g c =
+    level_past c.args.target.now c.args.graph.now c.args.node (OnFalse_at c.if-not-has_node.true c.has_node.ensures.past)
+
+pub level-had-requires : goal.level-had-requires
+level-had-requires g c = OnTrue_at c.if-not-has_node.false c.has_node.ensures.inside
+
 pub level-has-requires : goal.level-has-requires
-level-has-requires g c = subst (λ n. c.args.node < n) (sym c.requires.large.nodes_are) c.requires.inside
+level-has-requires g c =
+    subst (λ n. c.args.node < n) (sym c.requires.large.nodes_are) (OnTrue_at c.if-not-has_node.false c.has_node.ensures.inside)
 
-pub returns-then-are_same_levels-clause-led : goal.returns-then-are_same_levels-clause-led
-returns-then-are_same_levels-clause-led g c = led_in_none c.args.graph.now c.args.slot.now c.requires.covers
-
-pub returns-then-are_same_levels-clause-put : goal.returns-then-are_same_levels-clause-put
-returns-then-are_same_levels-clause-put g c =
-    level_stays c.args.target.now c.args.graph.now c.args.node
-    (sym c.level-had.ensures.value ∙ (OnTrue_at c.if-are_same_levels.true c.are_same_levels.ensures ∙ c.level-has.ensures.value))
+pub set_level-requires-clause-in_range : goal.set_level-requires-clause-in_range
+set_level-requires-clause-in_range g c = OnTrue_at c.if-not-has_node.false c.has_node.ensures.inside
 
 -- the graph before the edit
 before : (g : Over) (c : After-set_level g) →

@@ -1,11 +1,11 @@
--- So far the machine was led, and the graph has what the target has.
+-- So far the machine was led, and at all places but those that are left the graph has what the target has.
 use Rattle.edits_between.specs.Leading.{IsAsLarge, LedIn}
-use Rattle.edits_between.proofs.ReachingLemmas.{HasPlacesBelow}
+use Rattle.edits_between.proofs.ReachingLemmas.{HasPlacesBut}
 use Rattle.edits_between.proofs.leading.lead_places.Given as goal
 
-abbrev pub invariant-loop-place : goal.invariant-loop-place
-invariant-loop-place g l = record {
+abbrev pub invariant-loop-number : goal.invariant-loop-number
+invariant-loop-number g l = record {
   led : LedIn l.fn.graph l.graph l.fn.slot l.slot;
   large : IsAsLarge l.graph l.target;
-  below : HasPlacesBelow l.fn.graph l.target l.place l.graph;
+  left : HasPlacesBut l.fn.graph l.target l.apart.places.items l.number l.graph;
 }

@@ -1,5 +1,6 @@
 -- The good run starts with nothing kept; what is told of the faults beside it, or of the line at which it ended, is the answer.
 use Rattle.std.proofs.Common.{◌≡◌, List, None, Option, ℕ, refl, sym, ap, subst, ◌∙◌}
+use Rattle.std.proofs.lemmas.Result.{err_from_is_err_and}
 use Rattle.netlist.specs.Circuits.{CircuitData}
 use Rattle.told_lines.specs.Printing.{PrinterData}
 use Rattle.session_meaning.specs.Sessions.{SessionData, start_of}
@@ -20,6 +21,11 @@ refuse_halt-requires g c =
     subst (λ (circuit : CircuitData). IsCutShort circuit c.in_ok-good.halt) (sym c.circuit.ensures.value)
     (cut_short c.args.session.core.circuit c.args.script.now c.args.session.core.kept c.run_good.new.session.core (g.A.Analyst.analysed c.args.analyst.now)
     (g.A.Analyst.analysed c.run_good.new.analyst) c.in_ok-good.good c.in_ok-good.halt c.in_default.not-End c.in_ok-good.ensures)
+
+pub returns-in_err-good-clause-write : goal.returns-in_err-good-clause-write
+returns-in_err-good-clause-write g c =
+    let stop = err_from_is_err_and c.from_residual.result c.from_residual.ensures.1 in
+    rw (stop.1, stop.2) refl
 
 pub returns-in-End-clause-told : goal.returns-in-End-clause-told
 returns-in-End-clause-told g c =

@@ -26,6 +26,7 @@ returns-in-Ok-clause-well g c =
           made.fits made.last made.builds;
       goes = record { fits = made.fits; state_is = made.fresh.0 ∙ c.deref.ensures.value };
       passes = subst (All (IsPassed c.args.graph)) (sym c.no_passes.ensures) (All-nil _);
+      apart = c.requires.apart;
     }
 
 pub returns-in-Ok-clause-builds : goal.returns-in-Ok-clause-builds
@@ -33,20 +34,20 @@ returns-in-Ok-clause-builds g c =
     let made = c.in-Ok.ensures in
     let old = Waits (wait_of (record {
       state = c.args.state;
-      last_run = Some (record { machine = Some c.args.machine; covered = true; graph = c.args.graph; good = c.args.good });
+      last_run = Some (record { machine = Some c.args.machine; covered = true; graph = c.args.graph; good = c.args.good; apart = c.args.apart });
     })) in
     built_ready c.args.large c.args.graph c.args.kept.now.bound old (texts_of c.args.kept.now) (texts_of c.build.new.kept) _ _ refl _ c.in-Ok.fresh refl refl
     refl made.builds
     (front_built c.args.large c.args.graph c.args.kept.now.bound (texts_of c.args.kept.now) (texts_of c.build.new.kept) _ _ c.in-Ok.fresh c.in-Ok.made made.last made.builds)
 
 pub returns-in-Err-clause-well : goal.returns-in-Err-clause-well
-returns-in-Err-clause-well g c = λ covered. c.requires.covered
+returns-in-Err-clause-well g c = λ covered. record { machine = c.requires.covered; apart = c.requires.apart }
 
 pub returns-in-Err-clause-builds : goal.returns-in-Err-clause-builds
 returns-in-Err-clause-builds g c =
     let old = Waits (wait_of (record {
       state = c.args.state;
-      last_run = Some (record { machine = Some c.args.machine; covered = true; graph = c.args.graph; good = c.args.good });
+      last_run = Some (record { machine = Some c.args.machine; covered = true; graph = c.args.graph; good = c.args.good; apart = c.args.apart });
     })) in
     let cut = cut_or_refused c.args.large c.args.graph c.args.kept.now c.build.new.kept _ _ c.build.result c.in-Err.fault c.in-Err.is c.in-Err.ensures.refused
     c.build.ensures.cut_off in

@@ -37,6 +37,9 @@ build_fresh-requires-clause-covered g c =
     let led = led_machine l.good.graph c.args.graph.now c.lead.new.count c.deref.result.now l.machine c.in-Some.machine c.in-Some.is (OnTrue_at c.if-not-lead.false c.lead.ensures.led) in
     subst (λ (h : GraphData). IsCovered h c.in-Some.machine) (sym (OnTrue_at c.if-not-lead.false c.lead.ensures.graph)) led.covered
 
+pub build_fresh-requires-clause-apart : goal.build_fresh-requires-clause-apart
+build_fresh-requires-clause-apart g c = OnTrue_at c.if-not-lead.false c.lead.ensures.apart
+
 pub build_fresh-requires-clause-railed : goal.build_fresh-requires-clause-railed
 build_fresh-requires-clause-railed g c = subst IsRailed (sym (OnTrue_at c.if-not-lead.false c.lead.ensures.graph)) c.requires.railed
 
@@ -69,6 +72,9 @@ finish-requires-clause-led g c =
     led_machine l.good.graph c.args.graph.now c.lead.new.count c.deref.result.now l.machine c.in-Some.machine c.in-Some.is (OnTrue_at c.if-not-lead.false c.lead.ensures.led) in
     subst (λ (h : GraphData). IsLed l.good.graph h c.lead.new.count c.args.state.items c.in-Some.machine) (sym (OnTrue_at c.if-not-lead.false c.lead.ensures.graph))
     (rw (← c.deref.ensures.value) led)
+
+pub finish-requires-clause-apart : goal.finish-requires-clause-apart
+finish-requires-clause-apart g c = OnTrue_at c.if-not-lead.false c.lead.ensures.apart
 
 pub finish-requires-clause-railed : goal.finish-requires-clause-railed
 finish-requires-clause-railed g c = subst IsRailed (sym (OnTrue_at c.if-not-lead.false c.lead.ensures.graph)) c.requires.railed

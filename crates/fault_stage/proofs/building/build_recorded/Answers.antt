@@ -2,7 +2,9 @@
 use Rattle.std.proofs.Common.{None, length, refl, sym, ap, subst, ◌∙◌}
 use Rattle.std.specs.Prelude.{All}
 use Rattle.std.proofs.lemmas.List.Elements.{All-nil}
+use Rattle.switch_paths.specs.Graphs.{GraphData}
 use Rattle.analysis_cache.specs.Keeping.{texts_of}
+use Rattle.edits_between.specs.Leading.{DifferAt}
 use Rattle.fault_stage.specs.Passing.{IsPassed}
 use Rattle.fault_stage.specs.Stages.{Waits, wait_of}
 use Rattle.fault_stage.proofs.BuildingLemmas.{built_ready, front_built, not_built}
@@ -32,6 +34,7 @@ returns-in-Ok-clause-well g c =
         known = ap length c.requires.begins.known ∙ sym (ap length state_is);
       };
       passes = subst (All (IsPassed c.args.graph)) (sym c.no_passes.ensures) (All-nil _);
+      apart = subst (λ (way : GraphData). DifferAt c.args.graph way c.none.result) (sym c.requires.begins.graph) (c.none.ensures c.args.graph);
     }
 
 pub returns-in-Ok-clause-builds : goal.returns-in-Ok-clause-builds

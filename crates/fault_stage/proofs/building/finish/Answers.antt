@@ -24,6 +24,7 @@ returns-in-Ok-clause-well g c =
       known = made.known;
       goes = rw (← c.deref.ensures.value) made.goes;
       passes = subst (All (IsPassed c.args.graph)) (sym c.no_passes.ensures) (All-nil _);
+      apart = c.requires.apart;
     }
 
 pub returns-in-Ok-clause-builds : goal.returns-in-Ok-clause-builds
@@ -31,19 +32,22 @@ returns-in-Ok-clause-builds g c =
     let made = c.in-Ok.ensures.made in
     let old = Waits (wait_of (record {
       state = c.args.state;
-      last_run = Some (record { machine = Some c.args.machine; covered = true; graph = c.args.graph; good = c.args.good });
+      last_run = Some (record { machine = Some c.args.machine; covered = true; graph = c.args.graph; good = c.args.good; apart = c.args.apart });
     })) in
     built_ready c.args.large c.args.graph c.args.kept.now.bound old (texts_of c.args.kept.now) (texts_of c.finish_beside.new.kept) _ _ refl _ c.in-Ok.fresh
     refl refl refl made.builds made.front
 
 pub returns-in-Err-clause-well : goal.returns-in-Err-clause-well
-returns-in-Err-clause-well g c = λ covered. subst (IsCovered c.args.graph) (sym c.in-Err.ensures.err) c.requires.led.covered
+returns-in-Err-clause-well g c = λ covered. record {
+  machine = subst (IsCovered c.args.graph) (sym c.in-Err.ensures.err) c.requires.led.covered;
+  apart = c.requires.apart;
+}
 
 pub returns-in-Err-clause-builds : goal.returns-in-Err-clause-builds
 returns-in-Err-clause-builds g c =
     let run = λ (m : MachineData). Waits (wait_of (record {
       state = c.args.state;
-      last_run = Some (record { machine = Some m; covered = true; graph = c.args.graph; good = c.args.good });
+      last_run = Some (record { machine = Some m; covered = true; graph = c.args.graph; good = c.args.good; apart = c.args.apart });
     })) in
     let cut = cut_or_refused c.args.large c.args.graph c.args.kept.now c.finish_beside.new.kept _ _ c.finish_beside.result c.in-Err.fault c.in-Err.is
     c.in-Err.ensures.refused c.finish_beside.ensures.cut_off in

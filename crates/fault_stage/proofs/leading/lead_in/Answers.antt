@@ -22,6 +22,9 @@ returns-clause-led c = OnTrue_from c.is_some.result _ (λ set.
 pub returns-clause-graph : goal.returns-clause-graph
 returns-clause-graph c = OnTrue_from c.is_some.result _ (λ set. OnTrue_at c.if-not-lead_uncounted.false c.lead_uncounted.ensures.graph)
 
+pub returns-clause-apart : goal.returns-clause-apart
+returns-clause-apart c = OnTrue_from c.is_some.result _ (λ set. OnTrue_at c.if-not-lead_uncounted.false c.lead_uncounted.ensures.apart)
+
 pub returns-clause-texts : goal.returns-clause-texts
 returns-clause-texts c =
     texts_same c.lead_uncounted.new.slot ∙ (c.lead_uncounted.ensures.last ∙ (sym (texts_same c.restart_in.new.slot) ∙ c.restart_in.ensures.texts))

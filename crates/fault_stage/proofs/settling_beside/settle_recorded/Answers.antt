@@ -43,3 +43,6 @@ returns-clause-settles g c =
     let told = c.note_uncounted-told in
     settles_recorded g.O.Observer.see c.args.graph.now c.args.limit told.result.steps told.result.joined c.args.state.now c.args.machine.now told.new.machine
     (g.O.Observer.seen c.args.onlooker.now) (g.O.Observer.seen told.new.onlooker) c.args.good.now told.new.good c.requires.goes told.ensures.settles
+
+pub returns-clause-good : goal.returns-clause-good
+returns-clause-good g c = c.note_uncounted-told.ensures.settles.graph

@@ -21,6 +21,7 @@ returns-clause-built c = record {
   known = c.place_in.ensures.known;
   goes = rw (← c.deref.ensures.value) c.place_in.ensures.gives.goes;
   passes = c.requires.built.passes;
+  apart = c.requires.built.apart;
 }
 
 pub returns-clause-same : goal.returns-clause-same

@@ -1,7 +1,9 @@
 -- The machine settles on its course, and its state is taken over.
 use Rattle.std.proofs.Common.{◌∙◌, List, length, refl, sym, ap, subst, arith}
 use Rattle.ternary.specs.declared.tern.Tern.{Tern}
+use Rattle.switch_paths.specs.Graphs.{GraphData}
 use Rattle.switch_paths.specs.Rails.{IsSound}
+use Rattle.edits_between.specs.Leading.{DifferAt}
 use Rattle.fault_stage.specs.Runs.{GoesIn}
 use Rattle.fault_stage.specs.Stages.{SettlesSeen}
 use Rattle.fault_stage.proofs.CourseLemmas.{fits_anyway}
@@ -40,6 +42,7 @@ returns-clause-built g c =
           c.requires.built.known;
       goes = subst (λ (s : List Tern). GoesIn settled.new.good b.graph settled.new.machine s settled.result.0) (sym items) settles.goes;
       passes = settled.ensures.passes;
+      apart = subst (λ (way : GraphData). DifferAt b.graph way b.apart) (sym settled.ensures.good) c.requires.built.apart;
     }
 
 pub returns-clause-same : goal.returns-clause-same

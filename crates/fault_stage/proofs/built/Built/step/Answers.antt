@@ -38,6 +38,7 @@ returns-clause-built g c =
           (fits_marked b.graph c.take_step.new.machine takes.fits) (takes.last ∙ alone.last) c.requires.built.known;
       goes = subst (GoesIn b.good b.graph c.take_step.new.machine c.take_over.new.state.items) (sym c.replace-course.ensures.after) goes;
       passes = c.requires.built.passes;
+      apart = c.requires.built.apart;
     }
 
 pub returns-clause-same : goal.returns-clause-same

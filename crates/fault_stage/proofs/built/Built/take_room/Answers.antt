@@ -16,6 +16,7 @@ returns-clause-built c =
       known = c.requires.known;
       goes = subst (λ (s : List Tern). GoesIn b.good b.graph b.machine s b.course) (sym same) c.requires.goes;
       passes = c.requires.passes;
+      apart = c.requires.apart;
     }
 
 pub returns-clause-same : goal.returns-clause-same
