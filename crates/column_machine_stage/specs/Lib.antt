@@ -2,3 +2,4 @@ pub mod Stages
 pub mod Acts
 pub mod Moving
 pub mod Laws
+pub mod Words

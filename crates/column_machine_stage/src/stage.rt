@@ -2,26 +2,12 @@
 
 ghost use Rattle.std.specs.Prelude.{List, ◌≡◌, ℕ, ◌+◌, ◌-◌, ◌<◌, ◌≤◌, ◌⊎◌, true, None, Some, Err, ◌∷◌, length, is_some, replicate, slice_index_or, slice_set, IfSome, IfNone, IfOk, IfErr, OnOk, OnErr};
 ghost use Rattle.std.specs.Bool.{OnTrue, OnFalse};
-ghost use Rattle.ternary.specs.declared.tern.Tern.TheVariants.{Zero, One, Unk};
-ghost use Rattle.switch_paths.specs.declared.TheConstants.{RAILS};
-ghost use Rattle.switch_paths.specs.Words.{GraphData, nodes, state_at, IsRailed, IsSound, IsStep, IsWired};
-ghost use Rattle.settling.specs.declared.settling.TheConstants.{MOST_LIMIT};
-ghost use Rattle.settling.specs.declared.settling.Settled.{Settled};
-ghost use Rattle.settling.specs.Settling.{Settles};
-ghost use Rattle.channel_groups.specs.Changes.{undo};
-ghost use Rattle.group_text.specs.Texts.{GroupTextData};
-ghost use Rattle.group_analysis.specs.Using.{used_texts};
-ghost use Rattle.analysis_cache.specs.Keeping.{texts_of, IsGrown};
-ghost use Rattle.circuit_texts.specs.Sizes.{TellsRefused};
-ghost use Rattle.circuit_texts.specs.Building.{Builds, IsCutOff};
-ghost use Rattle.column_machines.specs.Columns.{column_states, HasStates};
-ghost use Rattle.column_machines.specs.Editing.{GrowsWords};
-ghost use Rattle.column_machines.specs.Making.{spare_of};
-ghost use Rattle.column_machines.specs.Moving.{columns_of, highs_of, lows_of, last_in, spare_in, CanFollow, CoversInColumns, FitsInColumns, IsKeptByColumns};
-ghost use Rattle.column_machines.specs.Running.{AreColumns};
-ghost use Rattle.column_stage.specs.Columns.{AreAmong, AreSound, with_new_nodes};
-ghost use Rattle.column_stage.specs.Standing.{IsCutInColumns};
-ghost use Rattle.column_stage.specs.declared.TheConstants.{NEW_NODES};
+ghost use Rattle.column_machine_stage.specs.Words.{Zero, One, Unk, RAILS, GraphData, nodes, state_at, IsRailed, IsSound, IsStep, IsWired};
+ghost use Rattle.column_machine_stage.specs.Words.{MOST_LIMIT, Settled, texts_of, undo, used_texts, Builds, GroupTextData, IsCutInColumns};
+ghost use Rattle.column_machine_stage.specs.Words.{IsCutOff, IsGrown, Settles, TellsRefused, column_states, HasStates, GrowsWords};
+ghost use Rattle.column_machine_stage.specs.Words.{spare_of, columns_of, highs_of, lows_of, last_in, spare_in, CanFollow, CoversInColumns};
+ghost use Rattle.column_machine_stage.specs.Words.{FitsInColumns, IsKeptByColumns, AreColumns, AreAmong, AreSound, with_new_nodes};
+ghost use Rattle.column_machine_stage.specs.Words.{NEW_NODES};
 ghost use Rattle.column_machine_stage.specs.Stages.{EditsFrom, FitsIn, GrowsHeld, IsInTurnIn, IsTogetherIn, KeepsFit, KeepsRoomIn, MovesTogether, ReservesFrom, SameStates, ServesIn, hi_held, last_held, lo_held, machine_held, spare_held, states_in};
 ghost use Rattle.column_machine_stage.specs.Acts.{BuildsColumns};
 

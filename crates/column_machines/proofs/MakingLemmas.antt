@@ -5,12 +5,13 @@ use Rattle.std.specs.List.{sum_by}
 use Rattle.std.proofs.lemmas.Bool.{lt-ltb, le-ltb}
 use Rattle.std.proofs.lemmas.List.{length-replicate}
 use Rattle.std.proofs.lemmas.List.Sums.{sum_by-cons}
+use Rattle.word_columns.specs.Columns.{AreUsed}
 use Rattle.machine_parts.specs.declared.part.MachinePart.{MachinePart}
 use Rattle.machine_parts.specs.Marking.{members_of}
 use Rattle.machine_laws.specs.Machines.{MachineData}
 use Rattle.column_machines.specs.Evaluating.{Rooms, HasRoomFor}
 use Rattle.column_machines.specs.Columns.{column_states, HasColumn}
-use Rattle.column_machines.specs.Running.{AreUsed, AreColumns, IsWordMachine, StepsInAll}
+use Rattle.column_machines.specs.Running.{AreColumns, IsWordMachine, StepsInAll}
 use Rattle.column_machines.specs.Stepping.{StepsColumns}
 
 -- ---- room

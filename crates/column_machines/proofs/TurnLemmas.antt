@@ -14,7 +14,7 @@ use Rattle.switch_paths.specs.Switching.{state_at}
 use Rattle.switch_paths.specs.declared.TheConstants.{RAILS}
 use Rattle.settling.specs.declared.settling.Settled.{Settled}
 use Rattle.settling.specs.Moved.{ListsChanges}
-use Rattle.word_columns.specs.Columns.{is_in_column, column_bits, AreRailsIn}
+use Rattle.word_columns.specs.Columns.{is_in_column, column_bits, AreRailsIn, AreUsed}
 use Rattle.word_columns.proofs.ColumnLemmas.{column_bits-at, length-column_bits}
 use Rattle.word_columns.proofs.RunLemmas.{high_at_node, low_at_node}
 use Rattle.machine_laws.specs.Machines.{MachineData}
@@ -24,7 +24,6 @@ use Rattle.machine_parts.proofs.CaseLemmas.{same_or_not, true_or_not}
 use Rattle.vicinity.specs.NodeSets.{IsIn}
 use Rattle.column_machines.specs.Columns.{column_states, state_in, HasSoundColumn, HasStates}
 use Rattle.column_machines.specs.Turns.{TurnData, IsTurnMachine, IsTurning, FitsInTurn, HaveRun, IsLoaded, MovesBy, RunsOne, Writes, WritesRail, WritesAt, WritesRailAt, words_of}
-use Rattle.column_machines.specs.Running.{AreUsed}
 use Rattle.column_machines.proofs.ColumnLemmas.{column_states-has, length-column_states}
 use Rattle.column_machines.proofs.FittingLemmas.{AreRailsIn-placed, column_states-placed}
 

@@ -8,3 +8,4 @@ pub mod Placing
 pub mod Stepping
 pub mod Turns
 pub mod Moving
+pub mod Words

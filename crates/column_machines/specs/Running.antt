@@ -1,8 +1,8 @@
 -- What lets a machine of columns run, and what a step does in each column.
-use Rattle.std.specs.Prelude.{◌≡◌, ◌≢◌, ℕ, ◌<◌, ◌≤◌, ◌⊎◌, Bool, true, false, None, nat_lt, List, length, Contains, slice_index}
+use Rattle.std.specs.Prelude.{◌≡◌, ◌≢◌, ℕ, ◌<◌, ◌≤◌, ◌⊎◌, Bool, true, false, None, List, length, Contains, slice_index}
 use Rattle.ternary.specs.declared.tern.Tern.{Tern}
 use Rattle.settling.specs.Settling.{StaysOrBecomesX}
-use Rattle.word_columns.specs.Columns.{is_in_column, AreRailsIn}
+use Rattle.word_columns.specs.Columns.{is_in_column, AreRailsIn, AreUsed}
 use Rattle.machine_parts.specs.declared.part.MachinePart.{MachinePart}
 use Rattle.machine_parts.specs.Parts.{IsStale, ReadsAt}
 use Rattle.machine_parts.specs.Stepping.{Moves}
@@ -16,10 +16,6 @@ use Rattle.column_machines.specs.Columns.{column_states, HasColumn}
 pub record IsRunnable (parts : List MachinePart) (marks : List Bool) (room : Rooms) : Type 0 where
   pub counted : length marks ≡ length parts
   pub room_for : HasRoomFor parts room
-
--- the word has the bits of the first columns, so many
-abbrev pub AreUsed : ℕ → ℕ → Type 0
-AreUsed columns used = (column : ℕ) → is_in_column column used ≡ nat_lt column columns
 
 -- each node has a rail in each column
 pub record AreColumns (columns : ℕ) (hi lo : List ℕ) : Type 0 where

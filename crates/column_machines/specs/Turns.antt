@@ -8,12 +8,12 @@ use Rattle.switch_paths.specs.Words.{GraphData, state_at, IsSound, IsStep}
 use Rattle.settling.specs.declared.settling.TheConstants.{MOST_LIMIT}
 use Rattle.settling.specs.declared.settling.Settled.{Settled}
 use Rattle.settling.specs.Settling.{Settles}
-use Rattle.word_columns.specs.Columns.{is_in_column}
+use Rattle.word_columns.specs.Columns.{is_in_column, AreUsed}
 use Rattle.machine_laws.specs.Machines.{MachineData}
 use Rattle.machine_laws.specs.Fitting.{FitsGraph}
 use Rattle.vicinity.specs.NodeSets.{IsIn}
 use Rattle.column_machines.specs.Columns.{column_states}
-use Rattle.column_machines.specs.Running.{AreColumns, AreUsed}
+use Rattle.column_machines.specs.Running.{AreColumns}
 
 -- the number of columns, the machine with some state, and both rails of each node's states, bit i for column i
 pub record TurnData : Type 0 where

@@ -1,19 +1,9 @@
 //! What moves columns: a machine that steps them together, or one that takes them in turn.
 ghost use Rattle.std.specs.Prelude.{List, ◌≡◌, ℕ, ◌+◌, ◌<◌, ◌≤◌, ◌⊎◌, length, slice_index_or, slice_set, Err, IfOk, IfErr, OnOk, OnErr};
 ghost use Rattle.std.specs.Bool.{OnTrue, OnFalse};
-ghost use Rattle.switch_paths.specs.declared.TheConstants.{RAILS};
+ghost use Rattle.column_machines.specs.Words.{RAILS, MOST_LIMIT, Settled, NEW_NODES};
 ghost use Rattle.switch_paths.specs.Words.{GraphData, nodes, IsRailed, IsSound, IsStep, IsWired};
-ghost use Rattle.settling.specs.declared.settling.TheConstants.{MOST_LIMIT};
-ghost use Rattle.settling.specs.declared.settling.Settled.{Settled};
-ghost use Rattle.settling.specs.Settling.{Settles};
-ghost use Rattle.channel_groups.specs.Changes.{undo};
-ghost use Rattle.group_text.specs.Texts.{GroupTextData};
-ghost use Rattle.group_analysis.specs.Using.{used_texts};
-ghost use Rattle.analysis_cache.specs.Keeping.{texts_of, IsGrown};
-ghost use Rattle.circuit_texts.specs.Building.{Builds, IsCutOff};
-ghost use Rattle.circuit_texts.specs.Sizes.{TellsRefused};
-ghost use Rattle.unit_step.specs.declared.editing.TheConstants.{NEW_NODES};
-ghost use Rattle.column_stage.specs.Standing.{IsCutInColumns};
+ghost use Rattle.column_machines.specs.Words.{texts_of, undo, used_texts, Builds, GroupTextData, IsCutInColumns, IsCutOff, IsGrown, Settles, TellsRefused};
 ghost use Rattle.column_machines.specs.Columns.{column_states, CoversInWords, HasSoundColumn, HasStates};
 ghost use Rattle.column_machines.specs.Editing.{AreKeptIn, GrowsWords};
 ghost use Rattle.column_machines.specs.Moving.{columns_of, highs_of, lows_of, column_in, last_in, spare_in, CanFollow, CoversInColumns, EditsColumns, FitsInColumns, IsInTurn, IsKeptByColumns, IsOfKind, IsTogether, KeepsColumnsButRoom};
@@ -22,12 +12,12 @@ ghost use Rattle.column_machines.specs.Running.{AreColumns};
 ghost use Rattle.column_machines.specs.Turns.{FitsInTurn};
 
 use crate::machine::WordMachine;
-use crate::making::some_state;
 use crate::rails::{Rails, grow_rails};
 use crate::turns::TurnMachine;
 use analysis_cache::{Analyst, Kept};
 use channel_groups::Change;
 use circuit_texts::BuildFault;
+use column_stage::some_state;
 use settling::{MOST_LIMIT, Settled};
 use std::alloc::Global;
 use switch_paths::Graph;

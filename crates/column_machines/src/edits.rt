@@ -2,14 +2,9 @@
 ghost use Rattle.std.specs.Prelude.{◌≡◌, ◌≢◌, ℕ, ◌+◌, ◌≤◌, ◌<◌, Err, length, IfOk, IfErr, OnOk, OnErr};
 ghost use Rattle.std.specs.Bool.{OnTrue};
 ghost use Rattle.switch_paths.specs.Words.{nodes, IsRailed, IsSound, IsWired};
-ghost use Rattle.channel_groups.specs.Changes.{undo};
-ghost use Rattle.group_analysis.specs.Using.{used_texts};
+ghost use Rattle.column_machines.specs.Words.{undo, used_texts, AllFit, Covers, Edits, IsKeptBy, NEW_NODES, AddsMarked};
 ghost use Rattle.analysis_cache.specs.Words.{texts_of, IsGrown};
 ghost use Rattle.circuit_texts.specs.Words.{Builds, IsCutOff};
-ghost use Rattle.circuit_texts.specs.Sizes.{AllFit};
-ghost use Rattle.machine_laws.specs.Words.{Covers, Edits, IsKeptBy};
-ghost use Rattle.unit_step.specs.declared.editing.TheConstants.{NEW_NODES};
-ghost use Rattle.part_lists.specs.Growing.{AddsMarked};
 ghost use Rattle.column_machines.specs.Columns.{column_of, CoversInWords, FitsInWords};
 ghost use Rattle.column_machines.specs.Editing.{AreKeptIn, EditsWords, Follows, GrowsWords, KeepsButRoom, KeepsWords};
 ghost use Rattle.column_machines.specs.Evaluating.{rooms, IsEven};

@@ -1,11 +1,8 @@
 //! The evaluation of the marked parts: their codes run on the old words, and what changes is noted.
 ghost use Rattle.std.specs.Prelude.{◌≡◌, ℕ, ◌+◌, ◌<◌, ◌≤◌, List, [], length, All, vec_len, vec_capacity};
-ghost use Rattle.word_columns.specs.Columns.{is_in_column};
-ghost use Rattle.machine_parts.specs.declared.part.MachinePart.{MachinePart};
-ghost use Rattle.machine_parts.specs.Words.{Stands, IsMarked, count_marked, marked_sum, members_of};
+ghost use Rattle.column_machines.specs.Words.{is_in_column, MachinePart, Stands, IsMarked, count_marked, marked_sum, members_of, AreSeated};
+ghost use Rattle.column_machines.specs.Words.{GivesWords};
 ghost use Rattle.machine_parts.specs.Evaluating as single;
-ghost use Rattle.machine_laws.specs.Words.{AreSeated};
-ghost use Rattle.unit_step.specs.Columns.{GivesWords};
 ghost use Rattle.column_machines.specs.Noting.{after_word, differs_in, Notes};
 ghost use Rattle.column_machines.specs.Evaluating.{rooms, IsEven, Reports, Evaluated};
 

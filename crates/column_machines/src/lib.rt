@@ -38,6 +38,5 @@ mod uneven;
 pub use bits::{state_in, with_bit};
 pub use column_machine::ColumnMachine;
 pub use machine::WordMachine;
-pub use making::some_state;
 pub use rails::{Rails, grow_rails};
 pub use turns::TurnMachine;

@@ -1,14 +1,8 @@
 //! The machine of columns.
 ghost use Rattle.std.specs.Prelude.{◌≡◌, ◌≢◌, ℕ, ◌^◌, ◌<◌, ◌≤◌, true, false, length, slice_index_or, None, Some, IfOk};
-ghost use Rattle.switch_paths.specs.declared.TheConstants.{RAILS};
-ghost use Rattle.switch_paths.specs.Words.{nodes, IsWired, IsStep};
-ghost use Rattle.settling.specs.declared.settling.TheConstants.{MOST_LIMIT};
-ghost use Rattle.settling.specs.declared.settling.Settled.{Settled};
-ghost use Rattle.settling.specs.Settling.{IsJoinStep, StaysOrBecomesX, Settles};
-ghost use Rattle.word_columns.specs.Columns.{is_in_column};
+ghost use Rattle.column_machines.specs.Words.{RAILS, nodes, IsWired, IsStep, MOST_LIMIT, Settled, IsJoinStep, StaysOrBecomesX, Settles};
+ghost use Rattle.column_machines.specs.Words.{is_in_column, Concerns, FitsGraph, HasLast};
 ghost use Rattle.machine_parts.specs.Words.{MarksAll};
-ghost use Rattle.machine_parts.specs.Stepping.{Concerns};
-ghost use Rattle.machine_laws.specs.Words.{FitsGraph, HasLast};
 ghost use Rattle.column_machines.specs.Columns.{column_of, CoversInWords, FitsInWords, HasSoundColumn, HasStates};
 ghost use Rattle.column_machines.specs.Making.{IsMadeOf};
 ghost use Rattle.column_machines.specs.Running.{AreColumns};
@@ -17,7 +11,7 @@ ghost use Rattle.column_machines.specs.Placing.{PlacesWords};
 
 use crate::advance::advance;
 use crate::evaluation::Workspace;
-use crate::making::{used_columns, workspace_for};
+use crate::making::workspace_for;
 use crate::rails::Rails;
 use part_lists::{Agenda, mark_all};
 use settling::{MOST_LIMIT, Settled};
@@ -26,6 +20,7 @@ use std::marker::Model;
 use switch_paths::{Graph, graphs_are_wired};
 use ternary::NoMemory;
 use unit_step::Machine;
+use word_columns::used_columns;
 use word_settling::{WordStepper, settle_each};
 
 /// A compiled circuit with up to 64 states: a machine, whose parts are those of its groups, which of them are marked, and both

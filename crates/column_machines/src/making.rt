@@ -1,34 +1,9 @@
 //! What a machine of columns is made of: its columns, and room for its steps.
 ghost use Rattle.std.specs.Prelude.{◌≡◌, ◌≤◌, length, vec_capacity, IfOk, OnOk};
-ghost use Rattle.ternary.specs.declared.tern.Tern.TheVariants.{Zero, One};
-ghost use Rattle.switch_paths.specs.Rails.{IsSound};
 ghost use Rattle.column_machines.specs.Evaluating.{IsEven};
-ghost use Rattle.column_machines.specs.Running.{AreUsed};
 
 use crate::evaluation::Workspace;
 use std::alloc::{AllocError, Global};
-use ternary::Tern;
-
-// The bits of the first columns, so many.
-pub(crate) fn used_columns(columns: u32) -> u64
-    requires some { 1 ≤ columns }
-    requires few { columns ≤ 64 }
-    ensures { AreUsed columns result }
-{
-    u64::MAX >> (64 - columns)
-}
-
-/// A sound state of so many nodes: all but the rails are X.
-pub fn some_state(alloc: Global, nodes: usize) -> Result<Vec<Tern>, AllocError>
-    requires { 2 ≤ nodes }
-    ensures count { IfOk result (λ state. length state.items ≡ nodes) }
-    ensures sound { IfOk result (λ state. IsSound state.items) }
-{
-    let mut state = vec![in alloc; Tern::Unk; nodes]?;
-    state[0] = Tern::Zero;
-    state[1] = Tern::One;
-    Ok(state)
-}
 
 // Room for the steps of so many parts, which have at most so many members.
 pub(crate) fn workspace_for(

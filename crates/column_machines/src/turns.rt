@@ -1,19 +1,12 @@
 //! One machine that takes the states of the columns in turn.
 ghost use Rattle.std.specs.Prelude.{◌≡◌, ◌≢◌, ◌^◌, ◌<◌, ◌≤◌, None, length, slice_set, IfOk};
 ghost use Rattle.std.specs.Bool.{OnTrue, OnFalse};
-ghost use Rattle.ternary.specs.Counts.{raised};
-ghost use Rattle.switch_paths.specs.declared.TheConstants.{RAILS};
-ghost use Rattle.switch_paths.specs.Words.{GraphData, IsStep};
-ghost use Rattle.settling.specs.declared.settling.Settled.{Settled};
-ghost use Rattle.settling.specs.Settling.{IsJoinStep, StaysOrBecomesX};
-ghost use Rattle.machine_laws.specs.Words.{FitsGraph};
-ghost use Rattle.vicinity.specs.NodeSets.{IsIn};
+ghost use Rattle.column_machines.specs.Words.{raised, RAILS, GraphData, IsStep, Settled, IsJoinStep, StaysOrBecomesX, FitsGraph, IsIn};
 ghost use Rattle.column_machines.specs.Columns.{column_states, HasStates};
 ghost use Rattle.column_machines.specs.Running.{AreColumns};
 ghost use Rattle.column_machines.specs.Turns.{HaveRun, IsLimit, IsLoaded, IsTurnMachine, MovesBy, RunsOne, WritesAt, words_of};
 
 use crate::bits::{state_in, with_bit};
-use crate::making::used_columns;
 use crate::rails::Rails;
 use crate::turning::Turning;
 use crate::uneven::{note, put_each, put_uneven, sift};
@@ -26,6 +19,7 @@ use switch_paths::{Graph, RAILS};
 use ternary::{Steps, Tern};
 use unit_step::Machine;
 use vicinity::NodeSet;
+use word_columns::used_columns;
 
 /// A machine of one state that takes the states of up to 64 columns in turn, and both rails of each node's states,
 /// bit i for column i.

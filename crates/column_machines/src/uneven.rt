@@ -1,10 +1,7 @@
 //! The nodes at which columns that take turns aren't all alike.
 ghost use Rattle.std.specs.Prelude.{◌≡◌, ◌⊎◌, ℕ, ◌<◌, true, length, Contains};
 ghost use Rattle.switch_paths.specs.Words.{state_at};
-ghost use Rattle.word_columns.specs.Columns.{is_in_column};
-ghost use Rattle.machine_parts.specs.Marking.{MarksAll};
-ghost use Rattle.vicinity.specs.NodeSets.{IsIn};
-ghost use Rattle.unit_step.specs.Listing.{nodes_told};
+ghost use Rattle.column_machines.specs.Words.{is_in_column, nodes_told, IsIn, MarksAll};
 ghost use Rattle.column_machines.specs.Columns.{column_states, state_in};
 
 use crate::bits::have_state;

@@ -5,3 +5,4 @@ pub mod Moving
 pub mod Seeing
 pub mod Standing
 pub mod Truths
+pub mod Words

@@ -1,17 +1,7 @@
 //! The states of all columns, and what is done to them that counts no columns: edits of the circuit, and builds.
 
 ghost use Rattle.std.specs.Prelude.{◌≡◌, ℕ, ◌+◌, ◌<◌, ◌≤◌, ◌⊎◌, List, Option, Err, IfOk, IfErr, OnOk, OnErr};
-ghost use Rattle.ternary.specs.declared.tern.Tern.{Tern};
-ghost use Rattle.switch_paths.specs.Graphs.{GraphData, nodes};
-ghost use Rattle.switch_paths.specs.Rails.{IsRailed};
-ghost use Rattle.group_text.specs.Texts.{GroupTextData};
-ghost use Rattle.group_analysis.specs.Using.{used_texts};
-ghost use Rattle.analysis_cache.specs.Keeping.{texts_of};
-ghost use Rattle.circuit_texts.specs.Sizes.{TellsRefused};
-ghost use Rattle.circuit_texts.specs.Building.{Builds};
-ghost use Rattle.column_stage.specs.Acts.{Act, Reserved, Edited, Built};
-ghost use Rattle.column_stage.specs.Columns.{AreAmong, AreSound, with_new_nodes};
-ghost use Rattle.column_stage.specs.Edits.{IsUndone};
+ghost use Rattle.column_stage.specs.Words.{Tern, GraphData, nodes, IsRailed, GroupTextData, used_texts, texts_of, TellsRefused, Builds, Act, Reserved, Edited, Built, AreAmong, AreSound, with_new_nodes, IsUndone};
 ghost use Rattle.column_stage.specs.declared.TheConstants.{NEW_NODES};
 
 use analysis_cache::{Analyst, Kept};

@@ -24,6 +24,7 @@ mod columns;
 mod moving;
 mod plain;
 mod stage;
+mod starting;
 mod truths;
 mod work;
 
@@ -31,6 +32,7 @@ pub use columns::Columns;
 pub use moving::ColumnStage;
 pub use plain::PlainStage;
 pub use stage::Stage;
+pub use starting::some_state;
 pub use truths::TruthStage;
 pub use work::Work;
 

@@ -1,17 +1,9 @@
 //! The stage of a symbolic script: columns that may be too many to be counted, whose moves may run out.
 
 ghost use Rattle.std.specs.Prelude.{◌≡◌, ℕ, ◌<◌, ◌≤◌, List, slice_set, IfErr, IfOk, OnErr, OnOk};
-ghost use Rattle.ternary.specs.declared.tern.Tern.{Tern};
+ghost use Rattle.column_stage.specs.Words.{Tern, nodes, IsStep, SettleTogether, GroupTextData, Act, AreSound, MovesColumns, KeepsGiven};
 ghost use Rattle.switch_paths.specs.declared.TheConstants.{RAILS};
-ghost use Rattle.switch_paths.specs.Graphs.{nodes};
-ghost use Rattle.switch_paths.specs.Step.{IsStep};
 ghost use Rattle.settling.specs.declared.settling.TheConstants.{MOST_LIMIT};
-ghost use Rattle.column_settling.specs.Together.{SettleTogether};
-ghost use Rattle.group_text.specs.Texts.{GroupTextData};
-ghost use Rattle.column_stage.specs.Acts.{Act};
-ghost use Rattle.column_stage.specs.Columns.{AreSound};
-ghost use Rattle.column_stage.specs.Moving.{MovesColumns};
-ghost use Rattle.column_stage.specs.Truths.{KeepsGiven};
 
 use crate::columns::Columns;
 use settling::{MOST_LIMIT, Settled};

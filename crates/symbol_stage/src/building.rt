@@ -7,7 +7,7 @@ ghost use Rattle.symbol_stage.specs.Stages.{FitsIn, ServesIn, columns_on, states
 use crate::SymbolStage;
 use analysis_cache::{Analyst, Kept};
 use circuit_texts::BuildFault;
-use column_machines::some_state;
+use column_stage::some_state;
 use decision_graph::Function;
 use switch_paths::Graph;
 use truth_machine::{Gear, gear_for};

@@ -3,3 +3,4 @@ pub mod Moving
 pub mod Symbols
 pub mod Gears
 pub mod Keeping
+pub mod Words

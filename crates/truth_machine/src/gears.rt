@@ -1,9 +1,6 @@
 //! What a machine over truths has besides its maker and rails, and a machine that takes such a gear.
 ghost use Rattle.std.specs.Prelude.{◌≡◌, ℕ, ◌<◌, ◌≤◌, [], length, None, All, IfOk};
-ghost use Rattle.switch_paths.specs.Words.{nodes};
-ghost use Rattle.machine_laws.specs.Words.{FitsGraph};
-ghost use Rattle.truth_parts.specs.Columns.{AreColumns};
-ghost use Rattle.truth_parts.specs.Fitting.{HasSound};
+ghost use Rattle.truth_machine.specs.Words.{nodes, FitsGraph, AreColumns, HasSound};
 ghost use Rattle.truth_machine.specs.Machines.{FitsInMachine};
 ghost use Rattle.truth_machine.specs.Gears.{IsEmptyGear, IsGear};
 

@@ -1,15 +1,9 @@
 //! The machine over truths.
 ghost use Rattle.std.specs.Prelude.{◌≡◌, ℕ, ◌^◌, ◌<◌, ◌≤◌, true, false, length, replicate, None, All, IfErr, IfOk, OnErr};
 ghost use Rattle.switch_paths.specs.declared.TheConstants.{RAILS};
-ghost use Rattle.switch_paths.specs.Words.{nodes, IsWired};
+ghost use Rattle.truth_machine.specs.Words.{nodes, IsWired, StaysOrBecomesX, AreSeated, FitsGraph, ReadsAt, IsStale, AreApart};
+ghost use Rattle.truth_machine.specs.Words.{SettleTogether, AreKept, AreColumns, HasStates, HasSound};
 ghost use Rattle.settling.specs.declared.settling.TheConstants.{MOST_LIMIT};
-ghost use Rattle.settling.specs.Settling.{StaysOrBecomesX};
-ghost use Rattle.machine_laws.specs.Words.{AreSeated, FitsGraph};
-ghost use Rattle.machine_parts.specs.Parts.{ReadsAt, IsStale, AreApart};
-ghost use Rattle.column_settling.specs.Together.{SettleTogether};
-ghost use Rattle.truth_columns.specs.Columns.{AreKept};
-ghost use Rattle.truth_parts.specs.Columns.{AreColumns, HasStates};
-ghost use Rattle.truth_parts.specs.Fitting.{HasSound};
 ghost use Rattle.truth_machine.specs.Machines.{column_of, FitsInMachine};
 ghost use Rattle.truth_machine.specs.Keeping.{KeepsTruths};
 ghost use Rattle.truth_machine.specs.Moving.{PlacesTruths, Rests, StepsColumns};

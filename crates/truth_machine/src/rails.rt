@@ -1,9 +1,6 @@
 //! The rails of one node, and a machine that goes on over another maker.
 ghost use Rattle.std.specs.Prelude.{◌≡◌, ℕ, ◌<◌, length, slice_index_or, All, OnErr, OnOk};
-ghost use Rattle.ternary.specs.Tern.{may_one, may_zero};
-ghost use Rattle.switch_paths.specs.Switching.{state_at};
-ghost use Rattle.switch_paths.specs.Graphs.{GraphData};
-ghost use Rattle.truth_columns.specs.Columns.{HasColumn};
+ghost use Rattle.truth_machine.specs.Words.{may_one, may_zero, state_at, GraphData, HasColumn};
 ghost use Rattle.truth_machine.specs.Machines.{column_of, FitsInMachine};
 
 use crate::TruthMachine;

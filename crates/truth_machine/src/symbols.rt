@@ -1,10 +1,7 @@
 //! The machine over functions of variables: what its maker makes for those who use it.
 ghost use Rattle.std.specs.Prelude.{◌≡◌, ℕ, ◌<◌, ◌≤◌, ◌||◌, Bool, not, length, IfErr, IfOk};
-ghost use Rattle.decision_graph.specs.Meaning.{holds};
+ghost use Rattle.truth_machine.specs.Words.{holds, AreInside, named_under, truth_of, IsMissed};
 ghost use Rattle.decision_graph.specs.declared.graph.GraphFault.TheVariants as fault;
-ghost use Rattle.formula_functions.specs.Tables.{AreInside, named_under};
-ghost use Rattle.formula_functions.specs.Truths.{truth_of};
-ghost use Rattle.truth_makers.specs.Expecting.{IsMissed};
 ghost use Rattle.truth_machine.specs.Symbols.{MakesMore};
 
 use crate::TruthMachine;

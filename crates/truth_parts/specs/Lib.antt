@@ -3,3 +3,4 @@ pub mod Noting
 pub mod Evaluating
 pub mod Stepping
 pub mod Fitting
+pub mod Words

@@ -1,11 +1,8 @@
 //! The evaluation of the marked parts: their codes run on the old rails, and what changes is noted.
 ghost use Rattle.std.specs.Prelude.{◌≡◌, ℕ, ◌+◌, ◌*◌, ◌<◌, ◌≤◌, List, [], length, map, take, All, vec_len, vec_capacity, IfErr, OnOk};
 ghost use Rattle.ternary.specs.declared.tern.Tern.{Tern};
-ghost use Rattle.switch_paths.specs.Switching.{state_at};
-ghost use Rattle.straight_code.specs.Code.{code_value};
-ghost use Rattle.truth_columns.specs.Columns.{AreKept, HasColumn};
+ghost use Rattle.truth_parts.specs.Words.{state_at, code_value, AreKept, HasColumn, Stands, IsMarked, count_marked, marked_sum, members_of};
 ghost use Rattle.machine_parts.specs.declared.part.MachinePart.{MachinePart};
-ghost use Rattle.machine_parts.specs.Words.{Stands, IsMarked, count_marked, marked_sum, members_of};
 ghost use Rattle.truth_parts.specs.Noting.{IsOf, Notes};
 ghost use Rattle.truth_parts.specs.Evaluating.{rooms, AreTaken, Evaluated, IsWorkspace, IsSeated, Reports};
 

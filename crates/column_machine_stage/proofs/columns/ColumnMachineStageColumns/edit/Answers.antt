@@ -4,25 +4,20 @@ use Rattle.column_machine_stage.proofs.ColumnLemmas.{length-column_states-min}
 use Rattle.column_machine_stage.proofs.EditLemmas.{follows_served, serves_edited, wired_undone}
 use Rattle.column_machine_stage.proofs.columns.ColumnMachineStageColumns.edit.Goals as goal
 
-pub follow-requires-clause-covers : goal.follow-requires-clause-covers
-follow-requires-clause-covers c =
+pub follow-requires : goal.follow-requires
+follow-requires c =
     let (before, undone, sound, room, serves) = c.requires.before in
-    follows_served before c.args.graph.now c.args.change.now undone c.args.self.now.large _ c.args.self.now.machine serves
-
-pub follow-requires-clause-wired : goal.follow-requires-clause-wired
-follow-requires-clause-wired c =
-    let (before, undone, sound, room, serves) = c.requires.before in
-    wired_undone before c.args.graph.now c.args.change.now undone
-
-pub follow-requires-clause-room : goal.follow-requires-clause-room
-follow-requires-clause-room c =
-    let (before, undone, sound, room, serves) = c.requires.before in
-    omega (
-      arith,
-      room,
-      (sound 0 (omega (arith, c.count-some.ensures.some, c.count-some.ensures.value))).counted,
-      length-column_states-min 0 c.args.self.now.hi c.args.self.now.lo,
-    )
+    record {
+      covers = follows_served before c.args.graph.now c.args.change.now undone c.args.self.now.large _ c.args.self.now.machine serves;
+      wired = wired_undone before c.args.graph.now c.args.change.now undone;
+      room = omega (
+        arith,
+        room,
+        (sound 0 (omega (arith, c.count-some.ensures.some, c.count-some.ensures.value))).counted,
+        length-column_states-min 0 c.args.self.now.hi c.args.self.now.lo,
+      );
+      last = c.requires.last;
+    }
 
 pub returns-clause-serves : goal.returns-clause-serves
 returns-clause-serves c =
