@@ -45,33 +45,30 @@ ghost use Rattle.std.specs.Prelude.{◌≡◌, [], ◌∷◌, Some, IfSome};
 ghost use Rattle.command_line.specs.Requests.{Simulate, names_of, over, request_of};
 ghost use Rattle.run_ends.specs.Stops.{faults_read, faults_written};
 ghost use Rattle.cosmos_app.specs.Answers.{IsAnswered};
-ghost use Rattle.cosmos_app.specs.Comparisons.{IsComparedTo};
+ghost use Rattle.symbol_app.specs.Comparisons.{IsComparedTo};
 ghost use Rattle.cosmos_app.specs.Counts.{files_count, sink_count};
 ghost use Rattle.cosmos_app.specs.Dumping.{IsDumpTo};
-ghost use Rattle.cosmos_app.specs.Named.{StartsInTurn};
+ghost use Rattle.symbol_app.specs.Named.{StartsInTurn};
 ghost use Rattle.cosmos_app.specs.Starts.{RequestStarts};
-ghost use Rattle.cosmos_app.specs.Symbolic.{IsSymbolicTo};
+ghost use Rattle.symbol_app.specs.Symbolic.{IsSymbolicTo};
 ghost use Rattle.cosmos_app.specs.Talking.{HandsOn, HasReadOnce, IsTalkTo};
-
-mod telling;
-mod told;
 
 use column_stage::PlainStage;
 use command_line::{dump_names, equiv_names, symbolic_names, talk_net};
-use cosmos_app::{Status, Stop, SymbolEnd, dump, equiv, run, symbolic, talk};
+use cosmos_app::{Status, Stop, dump, run, talk};
 use group_analysis::Analyst;
 use machine_stage::MachineStage;
 use node_elimination::SymbolicAnalyst;
 use ports::{FilesOver, Open, Outlet, SinkOver, real_files, real_outlet};
+use standard_error::{Told, tell_full, tell_start, tell_stop};
 use std::alloc::Global;
 use std::hash::RandomState;
 use std::process::ExitCode;
 use std::{env, io};
+use symbol_app::{SymbolEnd, equiv, symbol_status, symbolic};
 use table_keys::TableKeys;
 use talk_port::{RealTalk, StdWriter, Talk, real_talk};
 use talk_run::Teller;
-use telling::{tell_end, tell_start, tell_stop};
-use told::Told;
 use told_lines::Printer;
 
 fn main(rt: HostRuntime) -> ExitCode {
@@ -212,6 +209,23 @@ fn answer_equiv(
     sink.outlet().finish();
     let (of_file, of_output) = (files.reason(), sink.reason());
     tell_end(rt, words, end, files.name(), of_file, of_output)
+}
+
+// Tells why a run under all valuations stopped, as `tell_stop` does, or that vertices ran out. Its status is handed back.
+fn tell_end(
+    rt: &HostRuntime,
+    words: &[String],
+    end: Result<SymbolEnd, Stop>,
+    file: Option<&str>,
+    of_file: Option<io::Error>,
+    of_output: Option<io::Error>,
+) -> Status {
+    if let Ok(SymbolEnd::Full { vertices, line }) = end {
+        tell_full(rt, vertices, line);
+    }
+    let status = symbol_status(end);
+    tell_stop(rt, words, status, file, of_file, of_output);
+    status
 }
 
 // Holds the talk about a netlist or a deck over the files of the system, standard input and standard output, and says on

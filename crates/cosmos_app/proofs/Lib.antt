@@ -4,11 +4,7 @@ pub mod StartLemmas
 pub mod WholeLemmas
 pub mod FaultLemmas
 pub mod CountLemmas
+pub mod PurposeLemmas
 mod TalkLemmas
-mod PurposeLemmas
 mod DumpLemmas
 mod AskedLemmas
-mod UniqueAnswers
-mod SymbolLemmas
-mod UniqueComparisons
-mod SymbolicAnswers

@@ -4,9 +4,5 @@ pub mod Purposes
 pub mod Starts
 pub mod Counts
 pub mod Wholes
-pub mod Laws
 pub mod Talking
 pub mod Dumping
-pub mod Named
-pub mod Symbolic
-pub mod Comparisons

@@ -6,12 +6,12 @@
 //! words, that is, the text of the netlist or the deck has its meaning as a circuit or a first refused line, the
 //! script's lines have their effects in order from the start, every `step` is the unit step by
 //! unblocked paths in the circuit and the state at that point, and every phase settles by such
-//! steps. After a fault or lack of memory the bytes are a prefix of such an answer. By the law
-//! `answers_are_unique` there is one answer, unless the words ask for a listing or for reasons.
+//! steps. After a fault or lack of memory the bytes are a prefix of such an answer. By the law `answers_are_unique` of
+//! `symbol_app` there is one answer, unless the words ask for a listing or for reasons.
 //!
 //! `talk` holds the talk about a netlist or a deck, by its name; its contract says by turns that each line was answered
-//! before the next one was asked for. `dump` writes the value change dump of a script's run, as it goes. `symbolic` runs a script under all
-//! valuations of its variables, and `equiv` compares two circuits by such a run.
+//! before the next one was asked for. `dump` writes the value change dump of a script's run, as it goes. Runs under all
+//! valuations are in `symbol_app`.
 //!
 //! ```text
 //! run(alloc, ["sim", "inverter.sim", "inverter.cmd"], files, out)   is Status::Done
@@ -35,26 +35,15 @@
 #![tactic(auto)]
 
 mod columns;
-mod comparing;
 mod dumping;
-mod ends;
 mod faults;
-mod laws;
-mod named;
 mod noting;
-mod other_net;
 mod reports;
-mod symbols;
 mod talking;
 mod top;
 
-pub use comparing::equiv;
 pub use dumping::dump;
-pub use ends::{SymbolEnd, symbol_status};
-pub use laws::answers_are_unique;
-pub use named::CircuitRefusal;
 pub use run_ends::{Status, Stop};
 pub use script_meaning::scripts_end_at_their_first_refused_line;
-pub use symbols::symbolic;
 pub use talking::talk;
-pub use top::run;
+pub use top::{end_status, run};

@@ -112,8 +112,8 @@ pub fn run<M: PlainStage, F: Files, S: Sink + Drop, A: Analyst>(
     end_status(answer::<M, _, _, _>(alloc, words, files, out, analyst))
 }
 
-// The status that a run ends with.
-pub(crate) fn end_status(end: Result<End, Stop>) -> Status
+/// The status that a run ends with.
+pub fn end_status(end: Result<End, Stop>) -> Status
     ensures { result ≡ status_after end }
 {
     match end {

@@ -1,0 +1,4 @@
+mod UniqueAnswers
+mod SymbolLemmas
+mod UniqueComparisons
+mod SymbolicAnswers

@@ -1,0 +1,4 @@
+pub mod Named
+pub mod Symbolic
+pub mod Comparisons
+pub mod Laws
