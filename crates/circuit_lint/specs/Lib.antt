@@ -11,3 +11,4 @@ pub mod Starts
 pub mod Ways
 pub mod Findings
 pub mod Lines
+pub mod Words

@@ -2,10 +2,7 @@
 
 ghost use Rattle.std.specs.Prelude.{◌≡◌, ◌<◌, ◌≤◌, ℕ, length, map, Some, All, Contains, IfOk, IfSome, IfNone, OnOk};
 ghost use Rattle.std.specs.List.Sorted.{IsStrictlyIncreasing};
-ghost use Rattle.switch_paths.specs.Graphs.{nodes, IsStorage};
-ghost use Rattle.switch_paths.specs.declared.TheConstants.{RAILS, GND, VDD};
-ghost use Rattle.group_meaning.specs.Groups.{AreGroups, id_of};
-ghost use Rattle.channel_groups.specs.Grouping.{IsId};
+ghost use Rattle.circuit_lint.specs.Words.{nodes, IsStorage, RAILS, GND, VDD, AreGroups, id_of, IsId};
 ghost use Rattle.circuit_lint.specs.Conducting.{IsClosedAcross};
 ghost use Rattle.circuit_lint.specs.Closed.{AreClosed};
 ghost use Rattle.circuit_lint.specs.Distances.{AreDistances, IsFound, distance_at};

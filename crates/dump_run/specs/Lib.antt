@@ -1,3 +1,4 @@
 pub mod Dumped
 pub mod Turns
 pub mod Laws
+pub mod Words

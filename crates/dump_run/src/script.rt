@@ -2,15 +2,10 @@
 
 ghost use Rattle.std.specs.Prelude.{◌≡◌, ◌≢◌, false, None, true, IfErr, OnErr, OnOk};
 ghost use Rattle.line_words.specs.Files as file;
-ghost use Rattle.netlist.specs.Circuits.{IsCircuit};
-ghost use Rattle.script_lang.specs.Forms.{IsFormed};
+ghost use Rattle.dump_run.specs.Words.{IsCircuit, IsFormed, first_sheet, IsHeldSession, IsReady, IsToldBy, IsRefusedOnce, faults_written};
 ghost use Rattle.script_lang.specs.declared.command.Command.TheVariants as family;
 ghost use Rattle.script_lang.specs.declared.command.Setup.TheVariants as setup;
 ghost use Rattle.wave_dump.specs.Writing as writing;
-ghost use Rattle.wave_dump.specs.Writing.{first_sheet};
-ghost use Rattle.session_meaning.specs.Sessions.{IsHeldSession, IsReady};
-ghost use Rattle.run_ends.specs.Ends.{IsToldBy};
-ghost use Rattle.run_ends.specs.Stops.{IsRefusedOnce, faults_written};
 ghost use Rattle.dump_run.specs.Dumped.{IsDumpFrom, IsDumped, entry_of, is_move, is_watch};
 ghost use Rattle.dump_run.specs.Turns.{ClosesDump, DumpsAll, DumpsCommand, DumpsRun, DumpsTurn, EndsDump, Rests, watched_in};
 

@@ -1,5 +1,5 @@
 -- What names stand for in a table, and the truth values of functions in a graph that extends another.
-use Rattle.std.proofs.Common.{◌≡◌, ℕ, zero, suc, ◌+◌, ◌<◌, Bool, true, false, List, [], ◌∷◌, ◌++◌, length, get_or, bytes_eq, Some, None, Vec, refl, ap, ap₂, ◌∙◌, arith, if◌then◌else◌}
+use Rattle.std.proofs.Common.{◌≡◌, ℕ, zero, suc, ◌+◌, ◌<◌, Bool, true, false, List, [], ◌∷◌, ◌++◌, length, get_or, bytes_eq, Some, None, Vec, refl, sym, ap, ap₂, subst, ◌∙◌, arith, if◌then◌else◌}
 use Rattle.std.specs.Prelude.{position}
 use Rattle.std.specs.declared.alloc.Global.{Global}
 use Rattle.std.proofs.lemmas.List.{get_or-map}
@@ -97,3 +97,15 @@ rest-values vertices vars (function ∷ waiting) = refl
 pub rest-inside : (vertices : List Vertex) (waiting : List Function) → AreInside vertices waiting → AreInside vertices (but_first waiting)
 rest-inside vertices [] inside = inside
 rest-inside vertices (function ∷ waiting) inside = λ k d less. inside (suc k) d (omega (arith, less))
+
+-- a function that was made in a graph which extends another waits before functions of the other
+pub made_inside : (old new : List Vertex) (made : Function) (rest all : List Function) → all ≡ made ∷ rest → Extends old new → AreInside old rest →
+    made.place < length new → AreInside new all
+made_inside old new made rest all is extends inside there = subst (AreInside new) (sym is) (AreInside-more old new made rest extends inside there)
+
+-- and its value before their values
+pub made_values : (old new : List Vertex) (vars : ℕ → Bool) (made : Function) (rest all : List Function) (value : Bool) (values : List Bool) → all ≡ made ∷ rest →
+    Extends old new → AreInside old rest → holds new vars made.place ≡ value → values_under old vars rest ≡ values → values_under new vars all ≡ value ∷ values
+made_values old new vars made rest all value values is extends inside own others =
+    ap (values_under new vars) is
+    ∙ ap₂ (λ (value : Bool) (values : List Bool). value ∷ values) own (values_under-extends old new vars rest extends inside ∙ others)

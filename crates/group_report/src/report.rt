@@ -1,13 +1,8 @@
 ghost use Rattle.std.specs.Prelude.{◌≡◌, ◌<◌, ◌++◌, map, Some, All, IfOk, OnOk, OnErr};
 ghost use Rattle.std.specs.Io.KnownBytes.{append_known};
-ghost use Rattle.ports.specs.Ports.{RefusedOnce, faults_after};
-ghost use Rattle.ports.specs.Sending.{WritesPart};
-ghost use Rattle.switch_paths.specs.Graphs.{nodes};
-ghost use Rattle.group_meaning.specs.Groups.{AreGroups, IsGroup, id_of};
-ghost use Rattle.channel_groups.specs.Grouping.{IsId};
-ghost use Rattle.printed_lines.specs.Lines.{names_after};
+ghost use Rattle.group_report.specs.Words.{RefusedOnce, faults_after, WritesPart, nodes, AreGroups, IsGroup, id_of, IsId, names_after};
+ghost use Rattle.group_report.specs.Words.{called};
 ghost use Rattle.group_report.specs.Report.{Reports, line_with, lines_of};
-ghost use Rattle.netlist.specs.Circuits.{called};
 ghost use Rattle.group_report.specs.Noted.{NotesGroup, NotesText, noted_number, number_at};
 
 use channel_groups::{Group, GroupId, Groups};

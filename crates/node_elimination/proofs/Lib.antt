@@ -17,5 +17,4 @@ pub mod AnalysisLemmas
 pub mod MeaningLemmas
 pub mod HoldingLemmas
 pub mod HeldTableLemmas
-pub mod GivenWalks
 pub mod LargestTexts

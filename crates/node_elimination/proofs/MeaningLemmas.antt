@@ -20,7 +20,7 @@ use Rattle.group_text.specs.Texts.{GroupTextData, IsText}
 use Rattle.straight_code.specs.declared.code.Operand.TheVariants.{Constant}
 use Rattle.straight_code.specs.declared.code.Output.{Output}
 use Rattle.straight_code.specs.Code.{CodeData, operand_value, results, settled, output_state, code_value}
-use Rattle.straight_code.specs.Linear.{HasValues, Means}
+use Rattle.formula_code.specs.Linear.{HasValues, Means}
 use Rattle.group_analysis.specs.Meaning.{HasConstants, bound_of, MeansText}
 use Rattle.node_elimination.specs.Analysis.{AreRailsOfResponse, AreResponses}
 

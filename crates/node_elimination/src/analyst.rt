@@ -7,12 +7,13 @@ use crate::analysis::analyse;
 use crate::given::GivenTexts;
 use crate::held::{Formulas, all_formulas, ids_of_pairs, put_formulas, split_formulas};
 use bool_pool::{Id, Pool};
+use formula_code::linearise;
 use group_analysis::Analyst;
 use group_text::GroupText;
 use std::alloc::Global;
 use std::marker::{Brand, Model};
 use std::sync::ledger::{Blank, Ledger};
-use straight_code::{Code, linearise};
+use straight_code::Code;
 use table_keys::TableKeys;
 use ternary::{NoMemory, Steps};
 

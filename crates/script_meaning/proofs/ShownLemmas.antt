@@ -6,7 +6,6 @@ use Rattle.group_text.specs.Texts.{GroupTextData}
 use Rattle.told_lines.specs.Lines.{Line, Told}
 use Rattle.session_meaning.specs.Sessions.{SessionData}
 use Rattle.session_meaning.proofs.PassingLemmas.{passes_unique}
-use Rattle.session_meaning.proofs.UniqueEffects.{performs_unique}
 use Rattle.script_meaning.specs.declared.turn.Turn.{Turn}
 use Rattle.script_meaning.specs.declared.turn.Turn.TheVariants.{Accepted}
 use Rattle.script_meaning.specs.Runs.{Reading}
@@ -17,6 +16,7 @@ use Rattle.script_meaning.specs.Shown.{LinePasses, Shows, SeesAll, SeesLine}
 use Rattle.script_meaning.specs.Shown.LinePasses.{nothing, by_command}
 use Rattle.script_meaning.specs.Shown.Shows.{no_line, one_more}
 use Rattle.script_meaning.specs.Laws.{ScriptsShowOneList}
+use Rattle.script_meaning.proofs.UniqueRuns.{obeyed_unique}
 
 -- ---- views
 
@@ -116,16 +116,7 @@ module _ {S : Type 0} {begin see : S → List Tern → S} {rest : S → ℕ → 
 
 -- ---- one list
 
--- a line that is obeyed leads to one session
-obeyed_unique : {reading : Reading} {cut : Option ℕ} {old new other : SessionData} {line : ℕ × List ℕ} {wrote more : List Line} {texts others : List GroupTextData} →
-    IsObeyed reading cut old line new wrote texts → IsObeyed reading cut old line other more others → new ≡ other
-obeyed_unique (idle is) (idle also) = refl
-obeyed_unique (idle is) (done command new wrote texts asks performs) = absurd (cc (is.nothing, asks.asked))
-obeyed_unique (done command new wrote texts asks performs) (idle is) = absurd (cc (is.nothing, asks.asked))
-obeyed_unique {old = old} (done command new wrote texts asks performs) (done further other more others asked does) =
-    (performs_unique old new other command further wrote more texts others performs does (cc (asks.asked, asked.asked))).end
-
--- and has one list of steps and phases
+-- a line has one list of steps and phases
 line_unique : {reading : Reading} {cut : Option ℕ} {old : SessionData} {line : ℕ × List ℕ} {passes other : List Pass} →
     LinePasses reading cut old line passes → LinePasses reading cut old line other → passes ≡ other
 line_unique (nothing is) (nothing also) = refl
@@ -141,7 +132,7 @@ shown_unique : {reading : Reading} {cut : Option ℕ} {start new other : Session
 shown_unique (no_line session) (no_line _) = refl
 shown_unique {reading} {cut} (one_more old mid new line lines wrote texts passes more obeys through later)
     (one_more _ next other _ _ tells others besides rest obeyed beyond further) =
-    let here : mid ≡ next = obeyed_unique obeys obeyed in
+    let here : mid ≡ next = (obeyed_unique reading cut old mid next line wrote tells texts others obeys obeyed).end in
     let last : more ≡ rest = shown_unique later (subst (λ (at : SessionData). Shows reading cut at lines other rest) (sym here) further) in
     ap (λ (front : List Pass). map Passed front ++ Stands mid.state ∷ more) (line_unique through beyond)
     ∙ ap (λ (at : SessionData). map Passed besides ++ Stands at.state ∷ more) here

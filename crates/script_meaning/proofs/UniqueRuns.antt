@@ -11,6 +11,7 @@ use Rattle.script_meaning.specs.Codes.{refusal_code}
 use Rattle.script_meaning.specs.Runs.{Reading, Outcome, Runs, Asks, IsRefused, refused_at, after_command, answer_told}
 use Rattle.script_meaning.specs.Runs.Runs.{ends, passes, obeys, refuses}
 use Rattle.script_meaning.specs.Runs.IsRefused.{too_long, unread, refused, too_large}
+use Rattle.script_meaning.specs.FirstRefused.{IsObeyed}
 use Rattle.script_meaning.specs.FirstRefused.IsObeyed.{idle, done}
 use Rattle.script_meaning.specs.Laws.{RunsAreUnique, ScriptAnswersAreUnique}
 use Rattle.script_meaning.proofs.FirstRefusedLemmas.{not_refused}
@@ -20,7 +21,21 @@ pub same_command : {reading : Reading} {cut : Option ℕ} {session : SessionData
     Asks reading cut session line command → Asks reading cut session line other → command ≡ other
 same_command one two = cc (one.asked, two.asked)
 
--- and is refused for one cause
+-- a line that is obeyed leads to one session, and writes one list of lines
+pub record LeadsToOne (new later : SessionData) (wrote more : List Line) : Type 0 where
+  pub end : new ≡ later
+  pub wrote_is : wrote ≡ more
+
+pub obeyed_unique : (reading : Reading) (cut : Option ℕ) (old new later : SessionData) (line : ℕ × List ℕ) (wrote more : List Line) (texts others : List GroupTextData) →
+    IsObeyed reading cut old line new wrote texts → IsObeyed reading cut old line later more others → LeadsToOne new later wrote more
+obeyed_unique reading cut old new later line wrote more texts others (idle is) (idle also) = record { end = refl; wrote_is = refl }
+obeyed_unique reading cut old new later line wrote more texts others (idle is) (done command to lines analysed asks performs) = absurd (cc (is.nothing, asks.asked))
+obeyed_unique reading cut old new later line wrote more texts others (done command to lines analysed asks performs) (idle is) = absurd (cc (is.nothing, asks.asked))
+obeyed_unique reading cut old new later line wrote more texts others (done command to lines analysed asks performs) (done command_2 to_2 lines_2 analysed_2 asks_2 performs_2) =
+    let same = performs_unique old to to_2 command command_2 lines lines_2 analysed analysed_2 performs performs_2 (same_command asks asks_2) in
+    record { end = same.end; wrote_is = same.wrote }
+
+-- it is refused for one cause
 pub cause_unique : {reading : Reading} {cut : Option ℕ} {session : SessionData} {line : ℕ × List ℕ} {cause other : Cause} →
     IsRefused reading cut session line cause → IsRefused reading cut session line other → cause ≡ other
 cause_unique (too_long past is) (too_long again also) = is ∙ sym also

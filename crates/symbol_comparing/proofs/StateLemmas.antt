@@ -3,7 +3,6 @@ use Rattle.std.proofs.Common.{◌≡◌, ℕ, zero, suc, ◌+◌, ◌-◌, ◌<�
 use Rattle.std.specs.List.{drop-map, take-map}
 use Rattle.std.proofs.lemmas.List.{drop_min, drop_more, get_or-map, length-drop, length-map, length-take, same_lists, take_min}
 use Rattle.std.proofs.lemmas.List.Elements.{All-drop, All-get_or, All-head, All-tail, All-take, All-weaker}
-use Rattle.std.proofs.lemmas.List.FromFn.{get_or-map-range_with_len, length-map-range_with_len}
 use Rattle.ternary.specs.declared.tern.Tern.TheVariants.{Zero}
 use Rattle.ternary.specs.Tern.{may_one, may_zero}
 use Rattle.decision_graph.specs.declared.vertex.Function.{Function}
@@ -19,7 +18,6 @@ use Rattle.truth_makers.specs.Valuations.{column_of, valuation_of}
 use Rattle.truth_makers.proofs.SymbolLemmas.{valuation_of-column}
 use Rattle.truth_parts.specs.Columns.{rail_in, state_of, state_with, states_of}
 use Rattle.truth_parts.proofs.ColumnLemmas.{state-at}
-use Rattle.symbol_meaning.specs.Readings.{truths_in}
 use Rattle.symbol_comparing.specs.Rails.{RailLists, drop_rails, function_at, letters_in, take_rails, AreRailsOf, HoldAlike}
 
 -- ---- fronts and rests
@@ -188,20 +186,6 @@ module _ (old new : Symbols) (shape : SameShape old.graph new.graph) (extends : 
   }
 
 -- ---- valuations
-
--- the truth values in the column of a valuation are its own
-pub truths_of_column : (variables : ℕ) (vars : List Bool) → length vars ≡ variables → truths_in variables (column_of (assigned vars) variables) ≡ vars
-truths_of_column variables vars count =
-    let column = column_of (assigned vars) variables in
-    same_lists (truths_in variables column) vars (length-map-range_with_len (valuation_of variables column) 0 variables ∙ sym count) (λ k d inside.
-    let known : k < variables = omega (arith, inside, length-map-range_with_len (valuation_of variables column) 0 variables) in
-    get_or-map-range_with_len (valuation_of variables column) 0 variables k k d known (omega arith)
-    ∙ valuation_of-column variables (assigned vars) k known ∙ read_at vars k d (omega (arith, known, count)))
-  where
-    read_at : (list : List Bool) (k : ℕ) (d : Bool) → k < length list → get_or list k false ≡ get_or list k d
-    read_at [] k d inside = absurd (omega (arith, inside))
-    read_at (x ∷ list) zero d inside = refl
-    read_at (x ∷ list) (suc k) d inside = read_at list k d (omega (arith, inside))
 
 -- the state of a node in the column of a valuation is that with its rails under the valuation
 pub letter_at : (symbols : Symbols) (rails : RailLists) (vars : List Bool) (k : ℕ) (one other : Bool) → AreRailsOf symbols rails →

@@ -10,7 +10,7 @@ use Rattle.decision_graph.specs.Meaning.{assigned, holds}
 use Rattle.truth_makers.specs.declared.symbols.Symbols.{Symbols}
 use Rattle.truth_makers.specs.Makers.{columns_in}
 use Rattle.truth_makers.specs.Valuations.{column_of, holds_in, number_of, valuation_of, IsFirstColumn}
-use Rattle.truth_makers.proofs.LetterLemmas.{same_state}
+use Rattle.ternary.proofs.TernLemmas.{same_or_other}
 use Rattle.truth_parts.proofs.ColumnLemmas.{length-states}
 use Rattle.truth_makers.specs.Makers as maker
 use Rattle.symbol_meaning.specs.Readings.{Valuations}
@@ -18,7 +18,8 @@ use Rattle.symbol_meaning.specs.Comparing.{Difference, IsComparedWord}
 use Rattle.symbol_comparing.specs.Rails.{RailLists, letters_in, AreRailsOf, HoldAlike}
 use Rattle.symbol_comparing.specs.Told.{AreValuationsOf}
 use Rattle.symbol_comparing.specs.Words.{column_with, DifferFirst, IsFirstDifference}
-use Rattle.symbol_comparing.proofs.StateLemmas.{alike_letters, letters_alike, truths_of_column}
+use Rattle.symbol_told.proofs.ValuationLemmas.{truths_of_column}
+use Rattle.symbol_comparing.proofs.StateLemmas.{alike_letters, letters_alike}
 
 -- ---- what was found
 
@@ -117,7 +118,7 @@ same_letters : (xs ys : List Tern) → (xs ≡ ys) ⊎ (xs ≢ ys)
 same_letters [] [] = inl refl
 same_letters [] (y ∷ ys) = inr (λ e. absurd (cc e))
 same_letters (x ∷ xs) [] = inr (λ e. absurd (cc e))
-same_letters (x ∷ xs) (y ∷ ys) = by (same_state x y) (same_letters xs ys)
+same_letters (x ∷ xs) (y ∷ ys) = by (same_or_other x y) (same_letters xs ys)
   where
     by : ((x ≡ y) ⊎ (x ≢ y)) → ((xs ≡ ys) ⊎ (xs ≢ ys)) → ((x ∷ xs) ≡ (y ∷ ys)) ⊎ ((x ∷ xs) ≢ (y ∷ ys))
     by (inl head) (inl tail) = inl (ap₂ (λ (own : Tern) (rest : List Tern). own ∷ rest) head tail)

@@ -31,14 +31,14 @@ use Rattle.symbol_told.specs.Noting.{NotesData}
 use Rattle.symbol_comparing.specs.Notes.{heads_of, names_of, rails_in, shown_in, AreNoted}
 use Rattle.symbol_comparing.specs.Rails.{letters_in}
 use Rattle.symbol_comparing.specs.Told.{end_by, AreValuationsOf, TellsSome}
-use Rattle.symbol_run.specs.Answers.{cause_text, names_text, size_text, HasEnding}
+use Rattle.symbol_run.specs.Answers.{cause_text, is_whole, names_text, size_text, HasEnding}
 use Rattle.symbol_run.proofs.AlikeLemmas.{runs_alike}
 use Rattle.symbol_run.proofs.AnswerLemmas.{first_known, named_alike}
 use Rattle.symbol_equiv.specs.declared.fault.EqualFault.{EqualFault}
 use Rattle.symbol_equiv.specs.declared.fault.EqualFault.TheVariants as fault
 use Rattle.symbol_equiv.specs.Ends.{first_net, second_net, ComparesAs, IsEqualBy, IsRefusedPart, IsRefusedRun, IsRunTo, NotesRun, RunsAs, StartAlike}
 use Rattle.symbol_equiv.specs.Notes.{StillShow}
-use Rattle.symbol_equiv.specs.Runs.{is_whole, HaltsWith, RunsNoted}
+use Rattle.symbol_equiv.specs.Runs.{HaltsWith, RunsNoted}
 use Rattle.symbol_equiv.specs.Words.{all_watched}
 use Rattle.symbol_equiv.proofs.HeadLemmas.{heads_from, heads_noted, heads_of_run}
 use Rattle.symbol_equiv.proofs.KeptLemmas.{shown_still, valued_later}

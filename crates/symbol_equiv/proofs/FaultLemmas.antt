@@ -1,5 +1,5 @@
 -- What ends both runs before the answer is written, what that does to the sink's counts, and what was written by then.
-use Rattle.std.proofs.Common.{◌≡◌, ◌≢◌, ℕ, Bool, true, inl, inr, List, Option, Result, Ok, Err, IfErr, IfOk, OnOk, refl, sym, subst, ◌∙◌}
+use Rattle.std.proofs.Common.{◌≡◌, ◌≢◌, ℕ, true, inl, inr, List, Option, Result, Ok, Err, IfErr, IfOk, OnOk, refl, sym, subst, ◌∙◌}
 use Rattle.group_text.specs.Texts.{GroupTextData}
 use Rattle.truth_makers.specs.declared.symbols.Symbols.{Symbols}
 use Rattle.run_ends.specs.declared.stop.End as end
@@ -8,7 +8,6 @@ use Rattle.session_meaning.specs.Sessions.{SessionData}
 use Rattle.script_meaning.specs.declared.turn.Turn.{Turn}
 use Rattle.script_meaning.specs.declared.turn.Turn.TheVariants.{Accepted}
 use Rattle.symbol_meaning.specs.Readings.{Valuations}
-use Rattle.symbol_told.specs.Lines.{Telling}
 use Rattle.symbol_told.specs.Noting.{NotesData}
 use Rattle.symbol_run.specs.declared.session.SymbolFault.{SymbolFault}
 use Rattle.symbol_run.specs.declared.session.SymbolFault.TheVariants as session
@@ -24,7 +23,6 @@ use Rattle.symbol_equiv.specs.declared.fault.EqualFault.{EqualFault}
 use Rattle.symbol_equiv.specs.declared.fault.EqualFault.TheVariants as fault
 use Rattle.symbol_equiv.specs.Ends.{compared_as, fault_of_graph, fault_of_run, faults_equal, lines_obeyed, LeavesUnwritten, ComparesAs, RefusedEqual, RunsAs}
 use Rattle.symbol_equiv.specs.Lines.{IsNoted, TakesTurnNoted}
-use Rattle.symbol_equiv.specs.Waves.{TakesTurnRailed}
 
 -- ---- a line
 
@@ -52,14 +50,6 @@ words_turn old_maker new_maker v cut old line new before after full asked known 
     subst (λ (own : Turn). TakesTurnNoted old_maker new_maker true v cut old line new before after asked known (Ok own)) (sym accepted)
     (subst (λ (own : NotesData). IsNoted old_maker new_maker true v cut old line new before own asked known) (sym grew) is)
 words_turn old_maker new_maker v cut old line new before after full asked known (Err why) grew accepted is = tt
-
--- a turn of a quiet session
-pub railed_by : {H : Type 0} (symbols : Symbols) (hear : H → Telling → H) (own : Bool) (v : Valuations) (cut : Option ℕ) (old : ℕ → SessionData)
-    (line : ℕ × List ℕ) (new : ℕ → SessionData) (before after : H) (asked known : List GroupTextData) (result : Result Turn SymbolFault) → own ≡ true →
-    TakesTurnRailed symbols hear own v cut old line new before after asked known result →
-    TakesTurnRailed symbols hear true v cut old line new before after asked known result
-railed_by symbols hear own v cut old line new before after asked known result quiet is =
-    subst (λ (test : Bool). TakesTurnRailed symbols hear test v cut old line new before after asked known result) quiet is
 
 -- ---- a run
 

@@ -5,10 +5,11 @@ use Rattle.group_text.specs.Texts.{GroupTextData}
 use Rattle.truth_makers.specs.declared.symbols.Symbols.{Symbols}
 use Rattle.truth_makers.specs.Makers.{columns_in}
 use Rattle.session_meaning.specs.Sessions.{SessionData}
-use Rattle.script_meaning.specs.FirstRefused.{IsObeyed}
-use Rattle.symbol_meaning.specs.Readings.{Valuations, reading_under}
+use Rattle.symbol_meaning.specs.Readings.{Valuations}
 use Rattle.symbol_meaning.specs.Comparing.{Shown, Watched}
 use Rattle.symbol_told.specs.Noting.{NotesData, note}
+use Rattle.symbol_told.specs.Printing.{lines_told}
+use Rattle.symbol_run.proofs.RunLemmas.{obeyed_to}
 use Rattle.symbol_comparing.specs.Notes.{names_of, rails_in}
 use Rattle.symbol_comparing.specs.Rails.{letters_in}
 use Rattle.symbol_equiv.specs.Lines.{IsNoted}
@@ -56,16 +57,11 @@ module _ (v : Valuations) (cut : Option ℕ) (old : ℕ → SessionData) (line :
   pub tidied_line : (mid_maker new_maker : Symbols) (mid new : ℕ → SessionData) (noted after : NotesData) → columns_in mid_maker ≡ v.columns →
       ((column : ℕ) → column < v.columns → new column ≡ mid column) → StillShow mid_maker new_maker noted after →
       IsNoted old_maker mid_maker true v cut old line mid before noted asked known → IsNoted old_maker new_maker true v cut old line new before after asked known
+  unfolding obeyed_to
   tidied_line mid_maker new_maker mid new noted after same_columns same still is = record {
     told = is.told;
     texts = is.texts;
-    obeyed = record {
-      lines = is.obeyed.lines;
-      each = λ column inside.
-          subst (λ (session : SessionData). IsObeyed (reading_under true (v.values column)) cut (old column) line session (is.obeyed.lines column) is.texts)
-          (sym (same column inside)) (is.obeyed.each column inside);
-      merged = is.obeyed.merged;
-    };
+    obeyed = obeyed_to true v cut old mid new line (lines_told is.told) is.texts same is.obeyed;
     analysed = is.analysed;
     whole = still.whole;
     names = ap names_of still.alike.words ∙ is.names;

@@ -1,5 +1,5 @@
 -- Lines that are noted one after the other: what was noted so far is what notes of all lines show first, whatever the lines that are left show.
-use Rattle.std.proofs.Common.{◌≡◌, ℕ, ◌<◌, ◌≤◌, true, List, [], ◌∷◌, ◌++◌, filter_map, Option, Result, refl, sym, ap, subst, ◌∙◌, append-nil, append_assoc}
+use Rattle.std.proofs.Common.{◌≡◌, ℕ, ◌<◌, ◌≤◌, true, List, [], ◌∷◌, ◌++◌, filter_map, Option, refl, sym, ap, subst, ◌∙◌, append-nil, append_assoc}
 use Rattle.std.proofs.lemmas.List.Elements.{All-nil}
 use Rattle.group_text.specs.Texts.{GroupTextData}
 use Rattle.circuit_texts.specs.declared.texts.BuildFault.{BuildFault}
@@ -10,7 +10,6 @@ use Rattle.told_lines.specs.Hearing.{hear_all}
 use Rattle.run_ends.specs.Causes.{plain_cause}
 use Rattle.session_meaning.specs.Sessions.{SessionData}
 use Rattle.script_meaning.specs.declared.halt.Halt.TheVariants.{End, Refused, TooLarge}
-use Rattle.script_meaning.specs.declared.turn.Turn.{Turn}
 use Rattle.symbol_meaning.specs.Readings.{Valuations, reading_under}
 use Rattle.symbol_meaning.specs.Comparing.{Shown, Watched, shown_by, ShowsWaves}
 use Rattle.symbol_meaning.specs.Comparing.ShowsWaves.{no_line, one_more}
@@ -24,7 +23,7 @@ use Rattle.symbol_run.specs.declared.session.SymbolFault.{SymbolFault}
 use Rattle.symbol_run.specs.Halts.{StopsAmong}
 use Rattle.symbol_run.specs.Turns.{ObeysHeard, OutgrowsInAll, StaysUnheard, StopsAt}
 use Rattle.symbol_run.proofs.RunLemmas.{come_end, come_large, come_on, come_refused, come_start, stops_among, Come, Numbered}
-use Rattle.symbol_equiv.specs.Lines.{IsNoted, TakesTurnNoted}
+use Rattle.symbol_equiv.specs.Lines.{IsNoted}
 use Rattle.symbol_equiv.specs.Notes.{AreNotes, StillShow}
 use Rattle.symbol_equiv.specs.Runs.{Unheard, hear_nothing, RunsNoted}
 use Rattle.symbol_equiv.specs.Words.{all_watched, names_watched}
@@ -168,11 +167,3 @@ module _ (first : Symbols) (v : Valuations) (cut : Option ℕ) (start : ℕ → 
       -- what was kept of an earlier run is so behind the line
       pub noting_still : (new : Symbols) (others : NotesData) → StillShow now new later others → StillShow first new kept others
       noting_still new others still = still_then first now new kept later others so.columns so.still still
-
--- a turn by the valuations as they were at first
-pub turn_by : (old_maker new_maker : Symbols) (own v : Valuations) (cut : Option ℕ) (old : ℕ → SessionData) (line : ℕ × List ℕ) (new : ℕ → SessionData)
-    (before after : NotesData) (asked known : List GroupTextData) (result : Result Turn SymbolFault) → own ≡ v →
-    TakesTurnNoted old_maker new_maker true own cut old line new before after asked known result →
-    TakesTurnNoted old_maker new_maker true v cut old line new before after asked known result
-turn_by old_maker new_maker own v cut old line new before after asked known result same is =
-    subst (λ (valuations : Valuations). TakesTurnNoted old_maker new_maker true valuations cut old line new before after asked known result) same is

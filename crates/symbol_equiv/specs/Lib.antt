@@ -5,3 +5,4 @@ pub mod Notes
 pub mod Lines
 pub mod Runs
 pub mod Ends
+pub mod Clauses

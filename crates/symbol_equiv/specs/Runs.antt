@@ -1,12 +1,11 @@
 -- What a run of a script's lines comes to that is noted.
-use Rattle.std.specs.Prelude.{◌≡◌, ℕ, ◌<◌, Bool, true, false, List, [], Option, None, Some}
+use Rattle.std.specs.Prelude.{◌≡◌, ℕ, ◌<◌, Bool, List, [], Option}
 use Rattle.group_text.specs.Texts.{GroupTextData}
 use Rattle.truth_makers.specs.declared.symbols.Symbols.{Symbols}
 use Rattle.session_meaning.specs.Sessions.{SessionData}
 use Rattle.script_meaning.specs.declared.halt.Halt.{Halt}
 use Rattle.script_meaning.specs.declared.halt.Halt.TheVariants.{End, Refused, TooLarge}
 use Rattle.symbol_meaning.specs.Readings.{Valuations, reading_under}
-use Rattle.symbol_meaning.specs.Scripts.{NamedStop}
 use Rattle.symbol_meaning.specs.Comparing.{ShowsWaves}
 use Rattle.symbol_told.specs.Lines.{Telling}
 use Rattle.symbol_told.specs.Noting.{NotesData}
@@ -45,10 +44,3 @@ pub record RunsNoted (symbols : Symbols) (quiet : Bool) (v : Valuations) (cut : 
     (notes : NotesData) (asked known : List GroupTextData) (halt : Halt) : Type 0 where
   pub halts : HaltsWith quiet v cut start lines new asked known halt
   pub ends : EndsNoted symbols quiet v cut start lines notes halt
-
--- the lines ended without a refusal, also by names
-abbrev pub is_whole : Halt → Option NamedStop → Bool
-is_whole End None = true
-is_whole End (Some stop) = false
-is_whole (Refused number code) stop = false
-is_whole (TooLarge number fault) stop = false

@@ -2,12 +2,7 @@
 
 ghost use Rattle.std.specs.Prelude.{◌≡◌, ◌≢◌, ◌∷◌, ◌++◌, ℕ, true, List, Ok, IfErr, IfOk, OnOk};
 ghost use Rattle.line_words.specs.Files as file;
-ghost use Rattle.symbol_meaning.specs.Scripts.{before_stop};
-ghost use Rattle.symbol_told.specs.Noting.{no_notes};
-ghost use Rattle.symbol_comparing.specs.Told.{AreValuationsOf};
-ghost use Rattle.symbol_run.specs.Halts as spec;
-ghost use Rattle.symbol_run.specs.Halts.{StopsAmong};
-ghost use Rattle.symbol_run.specs.Turns.{StopsAt};
+ghost use Rattle.symbol_equiv.specs.Clauses.{before_stop, no_notes, AreValuationsOf, StopsAmong, StopsAt};
 ghost use Rattle.symbol_equiv.specs.Lines.{TakesTurnNoted};
 ghost use Rattle.symbol_equiv.specs.Notes.{AreNotes, StillShow};
 ghost use Rattle.symbol_equiv.specs.Runs.{RunsNoted};
@@ -23,7 +18,7 @@ use script_lang::Name;
 use script_meaning::{Halt, Turn};
 use std::alloc::Global;
 use symbol_lines::NameFault;
-use symbol_run::SymbolFault;
+use symbol_run::{SymbolFault, is_past};
 use symbol_told::Notes;
 use ternary::NoMemory;
 
@@ -64,16 +59,6 @@ pub(crate) fn note_lines<M: SharesMaker, A: Analyst>(
         }
     }
     Ok(Halt::End)
-}
-
-// Whether a line doesn't stand before the one that is refused by its names.
-fn is_past(number: u64, stop: Option<(u64, NameFault)>) -> bool
-    ensures { result ≡ spec.is_past stop number }
-{
-    match stop {
-        Some((line, _)) => number >= line,
-        None => false,
-    }
 }
 
 // Obeys a line, and notes what it shows and what it watches. Behind it functions may be let go that nothing needs.

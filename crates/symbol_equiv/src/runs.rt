@@ -8,7 +8,7 @@ ghost use Rattle.symbol_comparing.specs.Told.{AreValuationsOf};
 ghost use Rattle.symbol_equiv.specs.Ends.{faults_equal, RefusedEqual, RunsAs};
 ghost use Rattle.symbol_equiv.specs.Notes.{AreNotes};
 
-use crate::ending::{is_whole, refuse_run};
+use crate::ending::refuse_run;
 use crate::fault::EqualFault;
 use crate::noting::note_lines;
 use crate::sharing::{SessionStart, SharesMaker};
@@ -18,6 +18,7 @@ use ports::Sink;
 use run_ends::End;
 use std::alloc::Global;
 use symbol_lines::NameFault;
+use symbol_run::is_whole;
 use symbol_told::Notes;
 use truth_makers::Symbols;
 

@@ -37,6 +37,7 @@ pub(crate) fn tidy<M: SharesMaker>(
 }
 
 // Does so, whether there are many or not. Out of memory all is as before.
+#[tactic(auto, using(crate::proofs::KeptLemmas::still_same))]
 fn tidy_up<M: SharesMaker>(
     alloc: Global,
     session: &mut M,

@@ -26,11 +26,7 @@ use Rattle.symbol_expecting.specs.Faults.{faults_expected, of_graph, IsRefusalFo
 
 -- ---- refusals
 
--- what holds of the value with the name that was read holds of the assignment
-pub of_item : (P : List ℕ × Value → Type 0) (item : List ℕ × Value) (name : List ℕ) → name ≡ item.0 → P (name, item.1) → P item
-of_item P item name same holds = subst (λ (one : List ℕ). P (one, item.1)) same holds
-
--- so is what ends it
+-- what ends it for the value with the name that was read ends it for the assignment
 pub item_refused : (f : List ℕ × Value → Option Refusal) (item : List ℕ × Value) (name : List ℕ) (fault : ExpectFault) → name ≡ item.0 →
     IsRefusalFor (f (name, item.1)) fault → IsRefusalFor (f item) fault
 item_refused f item name fault same stops = subst (λ (one : List ℕ). IsRefusalFor (f (one, item.1)) fault) same stops
@@ -46,6 +42,10 @@ refusal_stops {X} f list place item (Refused refusal) inside is so_far stops =
 refusal_stops f list place item Full inside is so_far stops = absurd stops
 refusal_stops f list place item NoMemory inside is so_far stops = tt
 refusal_stops f list place item (Unheard fault) inside is so_far stops = absurd stops
+
+-- and what holds of that holds of the assignment
+pub of_item : (P : List ℕ × Value → Type 0) (item : List ℕ × Value) (name : List ℕ) → name ≡ item.0 → P (name, item.1) → P item
+of_item P item name same holds = subst (λ (one : List ℕ). P (one, item.1)) same holds
 
 -- a fault of what stands for assignments is one of them in each column
 module _ (v : Valuations) (session : HeldSession StageData) (list : List Assignment) where

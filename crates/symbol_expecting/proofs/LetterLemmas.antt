@@ -1,7 +1,6 @@
 -- What nodes have and what is wanted of them in the column of a valuation, by the values of functions under it.
-use Rattle.std.proofs.Common.{◌≡◌, ◌≢◌, ℕ, zero, suc, ◌+◌, ◌<◌, ◌^◌, Bool, false, List, [], ◌∷◌, ◌++◌, length, take, get_or, map, refl, sym, ap, ap₂, ◌∙◌, arith}
-use Rattle.std.proofs.lemmas.List.{map-append, same_lists, take_more}
-use Rattle.std.proofs.lemmas.List.FromFn.{get_or-map-range_with_len, length-map-range_with_len}
+use Rattle.std.proofs.Common.{◌≡◌, ◌≢◌, ℕ, ◌+◌, ◌<◌, ◌^◌, Bool, false, List, [], ◌∷◌, ◌++◌, length, take, get_or, map, refl, sym, ap, ap₂, ◌∙◌, arith}
+use Rattle.std.proofs.lemmas.List.{map-append, take_more}
 use Rattle.ternary.specs.Tern.{may_one, may_zero}
 use Rattle.switch_paths.specs.Switching.{state_at}
 use Rattle.printed_lines.specs.Lines.{wanted_letter}
@@ -17,7 +16,6 @@ use Rattle.truth_parts.specs.Columns.{state_with}
 use Rattle.truth_parts.proofs.ColumnLemmas.{state_with-rails}
 use Rattle.symbol_lines.specs.declared.items.Item.{Item}
 use Rattle.symbol_lines.specs.declared.items.Item.TheVariants as item
-use Rattle.symbol_meaning.specs.Readings.{truths_in}
 use Rattle.symbol_meaning.specs.Merging.{is_formula_alone}
 use Rattle.symbol_stage.specs.Stages.{StageData, columns_on, states_in}
 use Rattle.symbol_giving.specs.Letters.{letter_in}
@@ -60,20 +58,6 @@ pub wanted_bytes : (stage : StageData) (pairs : List (ℕ × SymbolLetter)) (var
 wanted_bytes stage [] vars = refl
 wanted_bytes stage (pair ∷ pairs) vars =
     ap (λ (rest : List ℕ). wanted_letter (letter_in stage (column_with stage.machine.maker vars) pair.1) ∷ rest) (wanted_bytes stage pairs vars)
-
--- the truth values in the column of a valuation are its own
-read_at : (vars : List Bool) (k : ℕ) (d : Bool) → k < length vars → get_or vars k false ≡ get_or vars k d
-read_at [] k d inside = absurd (omega (arith, inside))
-read_at (own ∷ vars) zero d inside = refl
-read_at (own ∷ vars) (suc k) d inside = read_at vars k d (omega (arith, inside))
-
-pub truths_of_column : (variables : ℕ) (vars : List Bool) → length vars ≡ variables → truths_in variables (column_of (assigned vars) variables) ≡ vars
-truths_of_column variables vars count =
-    let column = column_of (assigned vars) variables in
-    same_lists (truths_in variables column) vars (length-map-range_with_len (valuation_of variables column) 0 variables ∙ sym count) (λ k d inside.
-    let known : k < variables = omega (arith, inside, length-map-range_with_len (valuation_of variables column) 0 variables) in
-    get_or-map-range_with_len (valuation_of variables column) 0 variables k k d known (omega arith)
-    ∙ valuation_of-column variables (assigned vars) k known ∙ read_at vars k d (omega (arith, known, count)))
 
 -- ---- a value that is one formula
 

@@ -30,11 +30,11 @@ use Rattle.symbol_giving.specs.Giving.{data_of}
 use Rattle.symbol_giving.specs.Letters.{named_in, pairs_in, AreGivenBy, IsTableOf, OnlyMakes}
 use Rattle.symbol_giving.specs.declared.letters.SymbolLetter.{SymbolLetter}
 use Rattle.symbol_giving.proofs.LetterLemmas.{named_more, only_columns}
+use Rattle.symbol_told.proofs.ValuationLemmas.{truths_of_column}
 use Rattle.symbol_expecting.specs.Expecting.{AreMeantBy, IsToldInPart, IsToldWhole, Tells}
 use Rattle.symbol_expecting.specs.Missing.{are_met, are_met_in, column_with, AreWantedOf, IsFirstMissed, IsMissedFirst}
 use Rattle.symbol_expecting.specs.Telling.{states_under, telling_alone, tellings, unmet_told, wanted_under, TellsLine}
 use Rattle.symbol_expecting.specs.declared.fault.ExpectFault.{ExpectFault}
-use Rattle.symbol_expecting.proofs.LetterLemmas.{truths_of_column}
 use Rattle.symbol_expecting.proofs.MissingLemmas.{pairs_more}
 
 -- ---- a line, or none

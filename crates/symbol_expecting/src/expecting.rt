@@ -1,13 +1,7 @@
 //! `expect` of a symbolic script.
 ghost use Rattle.std.specs.Prelude.{◌≡◌, ◌+◌, ◌<◌, ◌∷◌, [], All, Err, drop, length, IfErr, IfOk};
-ghost use Rattle.formula_functions.specs.Tables.{TableData};
-ghost use Rattle.session_meaning.specs.Sessions.{HeldSession};
-ghost use Rattle.symbol_stage.specs.Stages.{StageData};
-ghost use Rattle.symbol_meaning.specs.Merging.{AreToldOf, IsToldOf};
-ghost use Rattle.symbol_meaning.specs.Readings.{Valuations};
-ghost use Rattle.symbol_giving.specs.Giving.{data_of};
-ghost use Rattle.symbol_giving.specs.Letters.{AreGivenBy, IsTableOf, OnlyMakes};
-ghost use Rattle.symbol_giving.specs.StandIns.{IsGiven};
+ghost use Rattle.symbol_expecting.specs.Words.{TableData, HeldSession, StageData, AreToldOf, IsToldOf, Valuations, data_of, AreGivenBy};
+ghost use Rattle.symbol_expecting.specs.Words.{IsTableOf, OnlyMakes, IsGiven};
 ghost use Rattle.symbol_expecting.specs.Expecting.{AreMeantBy, ExpectsInAll, Tells};
 ghost use Rattle.symbol_expecting.specs.Faults.{IsSilent, IsSpentBy, RefusedExpected, faults_expected};
 ghost use Rattle.symbol_expecting.specs.Missing.{AreWantedOf, IsFirstMissed};

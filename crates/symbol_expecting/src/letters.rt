@@ -1,12 +1,8 @@
 //! What nodes have, and what is wanted of them, under one valuation.
 ghost use Rattle.std.specs.Prelude.{◌≡◌, ◌<◌, length, map, IfOk};
-ghost use Rattle.switch_paths.specs.Switching.{state_at};
-ghost use Rattle.printed_lines.specs.Lines.{wanted_letter};
-ghost use Rattle.truth_makers.specs.Makers.{IsFunctionOf};
+ghost use Rattle.symbol_expecting.specs.Words.{state_at, wanted_letter, IsFunctionOf, states_in, IsLetterOf, letter_in};
 ghost use Rattle.truth_parts.specs.Columns as columns;
 ghost use Rattle.symbol_meaning.specs.Merging as spec;
-ghost use Rattle.symbol_stage.specs.Stages.{states_in};
-ghost use Rattle.symbol_giving.specs.Letters.{IsLetterOf, letter_in};
 ghost use Rattle.symbol_expecting.specs.Missing.{AreWantedOf, column_with};
 ghost use Rattle.symbol_expecting.specs.Telling.{is_formula_item, state_under, states_under, wanted_under};
 

@@ -1,12 +1,8 @@
 //! The functions of the valuations under which nodes aren't as they are wanted.
 ghost use Rattle.std.specs.Prelude.{◌≡◌, ℕ, ◌<◌, Some, not, length, IfErr, IfOk};
 ghost use Rattle.ternary.specs.declared.tern.Tern.TheVariants.{Unk};
-ghost use Rattle.switch_paths.specs.Switching.{state_at};
-ghost use Rattle.truth_makers.specs.Makers.{IsFunctionOf, IsSpent, function_holds};
-ghost use Rattle.truth_makers.specs.Expecting.{state_of_truth};
-ghost use Rattle.session_meaning.specs.Effects.{is_met};
-ghost use Rattle.symbol_stage.specs.Stages.{columns_on, states_in};
-ghost use Rattle.symbol_giving.specs.Letters.{IsLetterOf, letter_in};
+ghost use Rattle.symbol_expecting.specs.Words.{state_at, IsFunctionOf, IsSpent, function_holds, state_of_truth, is_met, columns_on};
+ghost use Rattle.symbol_expecting.specs.Words.{states_in, IsLetterOf, letter_in};
 ghost use Rattle.symbol_expecting.specs.Missing.{AreWantedOf, IsFirstMissed, MakesOn, are_met_in, pair_of};
 
 use decision_graph::{Function, GraphFault};

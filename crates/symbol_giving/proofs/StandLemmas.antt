@@ -1,7 +1,7 @@
 -- Plain assignments with 0 in the place of each formula. Under any valuation the items of a list give letters to the same nodes as these, so the
 -- assignments of each column are refused as these are; and if they aren't refused each gives letters, of a list item by item to the nodes of its name.
-use Rattle.std.proofs.Common.{◌≡◌, ℕ, zero, suc, Bool, true, false, ◌==◌, List, [], ◌∷◌, length, map, All, Option, Some, None, Result, Ok, Err, refl, sym, ap, ap₂, ◌∙◌, arith, if◌then◌else◌}
-use Rattle.std.specs.Prelude.{is_some, option_map, replicate, unwrap_or, zip}
+use Rattle.std.proofs.Common.{◌≡◌, ℕ, Bool, true, false, ◌==◌, List, [], ◌∷◌, length, map, All, Option, Some, None, Result, Ok, Err, refl, sym, ap, ap₂, ◌∙◌, arith, if◌then◌else◌}
+use Rattle.std.specs.Prelude.{is_some, option_map, unwrap_or, zip}
 use Rattle.std.proofs.lemmas.Bool.Decides.{nat_tests}
 use Rattle.std.proofs.lemmas.List.{length-map}
 use Rattle.std.proofs.lemmas.List.Elements.{All-cons, All-nil}
@@ -15,7 +15,7 @@ use Rattle.script_lang.specs.declared.value.Value.TheVariants as of_value
 use Rattle.node_words.specs.Words.{list_of, named, node_or_list}
 use Rattle.node_values.specs.declared.fault.GivenFault.{GivenFault}
 use Rattle.node_values.specs.declared.fault.GivenFault.TheVariants as given
-use Rattle.node_values.specs.Givings.{letters_given, states_given, unless_node, vector_named, with_letters, with_state, with_value_at}
+use Rattle.node_values.specs.Givings.{letters_given, unless_node, vector_named, with_letters, with_state, with_value_at}
 use Rattle.formula_functions.specs.Truths.{truth_of}
 use Rattle.truth_makers.specs.Expecting.{state_of_truth}
 use Rattle.symbol_lines.specs.declared.items.Item.{Item}
@@ -27,48 +27,10 @@ use Rattle.session_meaning.specs.declared.fault.Refusal.{Refusal}
 use Rattle.session_meaning.specs.Refusals.{first_refusal, given_refusal, givings_refusal, nodes_named, or_else, place_refusal, values_refusal}
 use Rattle.session_meaning.proofs.RefusalLemmas.{first_refusal-none, or_else-none}
 use Rattle.symbol_meaning.specs.Readings.{given_by_list, given_under, letter_under, plain_under}
+use Rattle.symbol_meaning.proofs.RefusalLemmas.{given_to, given_to-alike, state-alike, AreAlike}
 use Rattle.symbol_giving.specs.StandIns.{IsGiven, given_with, stand_in, stand_letter}
 
 -- ---- letters of the same nodes
-
--- the letters give states to the same nodes
-abbrev AreAlike : List Letter → List Letter → Type 0
-AreAlike one other = map (λ (letter : Letter). is_some letter) one ≡ map (λ (letter : Letter). is_some letter) other
-
--- so the nodes that are given states are the same
-states-alike : (at : ℕ → Option Refusal) (nodes : List ℕ) (one other : List Letter) → AreAlike one other →
-    first_refusal (λ (pair : ℕ × Tern). at pair.0) (states_given (zip nodes one)) ≡ first_refusal (λ (pair : ℕ × Tern). at pair.0) (states_given (zip nodes other))
-states-alike at [] one other same = refl
-states-alike at (node ∷ nodes) [] [] same = refl
-states-alike at (node ∷ nodes) [] (b ∷ other) same = absurd (cc)
-states-alike at (node ∷ nodes) (a ∷ one) [] same = absurd (cc)
-states-alike at (node ∷ nodes) (None ∷ one) (None ∷ other) same = states-alike at nodes one other (let e : AreAlike one other = cc in e)
-states-alike at (node ∷ nodes) (None ∷ one) (Some t ∷ other) same = absurd (let e : false ≡ true = cc in cc)
-states-alike at (node ∷ nodes) (Some s ∷ one) (None ∷ other) same = absurd (let e : true ≡ false = cc in cc)
-states-alike at (node ∷ nodes) (Some s ∷ one) (Some t ∷ other) same =
-    ap (or_else (at node)) (states-alike at nodes one other (let e : AreAlike one other = cc in e))
-
--- one state for all of them gives states to all
-replicas-alike : (count : ℕ) (s t : Tern) → AreAlike (replicate count (Some s)) (replicate count (Some t))
-replicas-alike zero s t = refl
-replicas-alike (suc count) s t = ap (λ (rest : List Bool). true ∷ rest) (replicas-alike count s t)
-
-state-alike : (at : ℕ → Option Refusal) (found : Option (List ℕ)) (s t : Tern) → given_refusal at (with_state s found) ≡ given_refusal at (with_state t found)
-state-alike at None s t = refl
-state-alike at (Some nodes) s t =
-    states-alike at nodes (replicate (length nodes) (Some s)) (replicate (length nodes) (Some t)) (replicas-alike (length nodes) s t)
-
--- letters for a vector's nodes, if they are as many, else none
-abbrev given_to : (ℕ → Option Refusal) → List ℕ → Bool → List Letter → Option Refusal
-given_to at nodes fits letters = given_refusal at (with_letters nodes (spread (length nodes) (if fits then letters else [])))
-
-given_to-alike : (at : ℕ → Option Refusal) (nodes : List ℕ) (one other : List Letter) → AreAlike one other → (fits : Bool) →
-    (length one == length nodes) ≡ fits → (length other == length nodes) ≡ fits → given_to at nodes fits one ≡ given_to at nodes fits other
-given_to-alike at nodes one other same false first second = refl
-given_to-alike at nodes one other same true first second =
-    ap (λ (test : Bool). given_refusal at (with_letters nodes (if test then Some one else one_for_all (length nodes) one))) first
-    ∙ states-alike at nodes one other same
-    ∙ sym (ap (λ (test : Bool). given_refusal at (with_letters nodes (if test then Some other else one_for_all (length nodes) other))) second)
 
 -- as many letters as items
 counted : (letter : Item → Letter) (items : List Item) → length (map letter items) ≡ length items

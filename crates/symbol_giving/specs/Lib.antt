@@ -1,3 +1,4 @@
 pub mod StandIns
 pub mod Letters
 pub mod Giving
+pub mod Words

@@ -1,13 +1,8 @@
 //! `set` and `charge` of a symbolic script.
 ghost use Rattle.std.specs.Prelude.{◌≡◌, ℕ, ◌<◌, [], ◌∷◌, ◌++◌, None, All, option_map, IfErr, IfOk, IfSome, OnErr, OnOk};
 ghost use Rattle.column_script.specs.declared.command.ValueCommand.{ValueCommand};
-ghost use Rattle.column_stage.specs.Truths.{KeepsGiven};
-ghost use Rattle.node_values.specs.Givings.{states_given};
-ghost use Rattle.truth_makers.specs.Makers.{IsSpent};
-ghost use Rattle.symbol_stage.specs.Given.{GivesLetters, letter_given};
-ghost use Rattle.symbol_stage.specs.Stages.{bound_in, columns_on};
-ghost use Rattle.session_meaning.specs.Refusals.{refusal_of};
-ghost use Rattle.session_meaning.specs.Truths.{give_of, letters_in_column};
+ghost use Rattle.symbol_giving.specs.Words.{KeepsGiven, states_given, IsSpent, GivesLetters, letter_given, bound_in, columns_on};
+ghost use Rattle.symbol_giving.specs.Words.{refusal_of, give_of, letters_in_column};
 ghost use Rattle.symbol_giving.specs.StandIns.{IsGiven};
 ghost use Rattle.symbol_giving.specs.Letters.{IsLetterOf, IsTableOf, OnlyMakes, letter_in, pairs_in};
 ghost use Rattle.symbol_giving.specs.Giving.{GivesInAll, IsFaultGiving, IsLack, IsRefusedBy, IsSpentBy, command_in, data_of, fault_of_graph, fault_of_values, stand_command, states_in_column};

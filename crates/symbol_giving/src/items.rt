@@ -1,12 +1,7 @@
 //! The letters of the items of a list, by the functions that a stage's maker makes of formulas.
 ghost use Rattle.std.specs.Prelude.{◌≡◌, ℕ, ◌<◌, [], ◌∷◌, ◌++◌, zip, map, All, IfErr, IfOk, OnOk};
 ghost use Rattle.decision_graph.specs.declared.graph.GraphFault.TheVariants as fault;
-ghost use Rattle.formula_functions.specs.Truths.{truth_of};
-ghost use Rattle.truth_makers.specs.Expecting.{state_of_truth};
-ghost use Rattle.truth_makers.specs.Makers.{IsSpent};
-ghost use Rattle.symbol_stage.specs.Given.{GivesLetters, letter_given};
-ghost use Rattle.symbol_stage.specs.Stages.{columns_on};
-ghost use Rattle.symbol_meaning.specs.Readings.{letter_under};
+ghost use Rattle.symbol_giving.specs.Words.{truth_of, state_of_truth, IsSpent, GivesLetters, letter_given, columns_on, letter_under};
 ghost use Rattle.symbol_giving.specs.Letters.{IsLetterOf, IsTableOf, OnlyMakes, letter_in, named_in, pairs_in};
 
 use crate::letters::{SymbolLetter, same_letter};

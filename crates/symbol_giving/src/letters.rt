@@ -1,11 +1,8 @@
 //! The letters that an assignment gives nodes under all valuations at once.
 ghost use Rattle.std.specs.Prelude.{◌≡◌, ℕ, ◌<◌, List, map, All, Ok, IfErr, IfOk};
-ghost use Rattle.switch_paths.specs.Graphs.{nodes};
-ghost use Rattle.script_lang.specs.Parts.{value_by};
+ghost use Rattle.symbol_giving.specs.Words.{nodes, value_by, IsSpent, nodes_named};
 ghost use Rattle.vector_values.specs.Values as wide;
 ghost use Rattle.node_values.specs.Givings as giving;
-ghost use Rattle.truth_makers.specs.Makers.{IsSpent};
-ghost use Rattle.session_meaning.specs.Refusals.{nodes_named};
 ghost use Rattle.symbol_lines.specs.declared.values.SymbolValue.TheVariants as written;
 ghost use Rattle.symbol_giving.specs.StandIns.{IsGiven};
 ghost use Rattle.symbol_giving.specs.Letters.{AreGivenBy, IsLetterOf, IsTableOf, OnlyMakes, same_letter, same_pair};

@@ -95,27 +95,26 @@ module _ (session : HeldSession StageData) (missed : ℕ → Bool) (saves : ℕ 
 
   module _ (quiet : Bool) (v : Valuations) (cut : Option ℕ) (line : ℕ × List ℕ) (as_many : v.columns ≡ columns_on session.stage) (names : List (List ℕ))
       (inside : is_cut cut line.0 ≡ false) where
-    -- a line that shows names is obeyed by what `show` tells
+    -- a line that tells what the columns tell is obeyed by it
+    tells_obeyed : (tell : Tell) (all : List SymbolTold) → symbol_reading_of quiet line.1 ≡ Ok (Some (Plain (family.Tell tell))) →
+        ((column : ℕ) → Performs (own column) (family.Tell tell) (own column) (told_by (own column) tell) []) →
+        AreMerged (columns_on session.stage) (λ column. told_by (own column) tell) all → IsObeyedInAll quiet v cut own line own (lines_told (tellings all)) []
+    tells_obeyed tell all asked performs merged =
+        subst (λ (told : List SymbolTold). IsObeyedInAll quiet v cut own line own told []) (sym (lines_of_tellings all))
+        (obeyed_in_all quiet v cut own line inside (family.Tell tell) asked (λ column. told_by (own column) tell) all (λ column within. performs column)
+        (subst (λ (columns : ℕ). AreMerged columns (λ column. told_by (own column) tell) all) (sym as_many) merged))
+
+    -- one that shows names by what `show` tells
     pub show_obeyed : symbol_reading_of quiet line.1 ≡ Ok (Some (Plain (family.Tell (Show names)))) →
         refusal_of_tell session.core.circuit session.core.vectors (Show names) ≡ None →
         IsObeyedInAll quiet v cut own line own (lines_told (tellings (all_shown session names))) []
-    show_obeyed asked allowed =
-        subst (λ (told : List SymbolTold). IsObeyedInAll quiet v cut own line own told []) (sym (lines_of_tellings (all_shown session names)))
-        (obeyed_in_all quiet v cut own line inside (family.Tell (Show names)) asked (λ column. told_by (own column) (Show names)) (all_shown session names)
-        (λ column within. shows (own column) names allowed)
-        (subst (λ (columns : ℕ). AreMerged columns (λ column. told_by (own column) (Show names)) (all_shown session names)) (sym as_many)
-        (session_shown session names)))
+    show_obeyed asked allowed = tells_obeyed (Show names) (all_shown session names) asked (λ column. shows (own column) names allowed) (session_shown session names)
 
     -- and one that looks at nodes by what `look` tells
     pub look_obeyed : symbol_reading_of quiet line.1 ≡ Ok (Some (Plain (family.Tell (Look names)))) →
         refusal_of_tell session.core.circuit session.core.vectors (Look names) ≡ None →
         IsObeyedInAll quiet v cut own line own (lines_told (tellings (all_looked session names))) []
-    look_obeyed asked allowed =
-        subst (λ (told : List SymbolTold). IsObeyedInAll quiet v cut own line own told []) (sym (lines_of_tellings (all_looked session names)))
-        (obeyed_in_all quiet v cut own line inside (family.Tell (Look names)) asked (λ column. told_by (own column) (Look names)) (all_looked session names)
-        (λ column within. looks (own column) names allowed)
-        (subst (λ (columns : ℕ). AreMerged columns (λ column. told_by (own column) (Look names)) (all_looked session names)) (sym as_many)
-        (session_looked session names)))
+    look_obeyed asked allowed = tells_obeyed (Look names) (all_looked session names) asked (λ column. looks (own column) names allowed) (session_looked session names)
 
     -- a refusal of either is one in each column
     pub tell_refused : (tell : Tell) (refusal : Refusal) → symbol_reading_of quiet line.1 ≡ Ok (Some (Plain (family.Tell tell))) →

@@ -1,7 +1,7 @@
 -- The nodes of a session over the stage of a symbolic script, and their rails: the stage has both for each of them.
 use Rattle.std.proofs.Common.{◌≡◌, ℕ, ◌+◌, ◌<◌, ◌≤◌, Bool, List, [], ◌∷◌, ◌++◌, length, get_or, map, take, All, refl, sym, ap, subst, ◌∙◌, arith}
 use Rattle.std.proofs.lemmas.List.{get_or_default, map-append, map_more}
-use Rattle.std.proofs.lemmas.List.Elements.{All-append, All-cons, All-nil, All-weaker}
+use Rattle.std.proofs.lemmas.List.Elements.{All-nil, All-push, All-weaker}
 use Rattle.ternary.specs.declared.tern.Tern.{Tern}
 use Rattle.ternary.specs.Tern.{may_one, may_zero}
 use Rattle.switch_paths.specs.Graphs.{nodes}
@@ -80,14 +80,6 @@ module _ (stage : StageData) (list : List ℕ) (k : ℕ) (within : k < length li
       ∙ ap (λ (own : Bool). map value (front column) ++ own ∷ []) here
       ∙ sym (ap (map value) (map_more state list k 0 within) ∙ map-append value (front column) (state (get_or list k 0) ∷ []))
 
-  -- one function more of a maker
-  own_more : (rails more : List Function) (rail : Function) → more ≡ rails ++ rail ∷ [] → IsFunctionOf stage.machine.maker rail →
-      All (IsFunctionOf stage.machine.maker) rails → All (IsFunctionOf stage.machine.maker) more
-  own_more rails more rail is own all =
-      subst (All (IsFunctionOf stage.machine.maker)) (sym is)
-      (All-append (IsFunctionOf stage.machine.maker) rails (rail ∷ []) all
-      (All-cons (IsFunctionOf stage.machine.maker) rail [] own (All-nil (IsFunctionOf stage.machine.maker))))
-
   -- the rails of one node more
   pub rails_more : (highs lows more_highs more_lows : List Function) (high low : Function) → more_highs ≡ highs ++ high ∷ [] →
       more_lows ≡ lows ++ low ∷ [] → IsFunctionOf stage.machine.maker high → IsFunctionOf stage.machine.maker low →
@@ -95,8 +87,8 @@ module _ (stage : StageData) (list : List ℕ) (k : ℕ) (within : k < length li
       ((column : ℕ) → column < columns_on stage → function_holds stage.machine.maker low column ≡ may_zero (state_at (states_in stage column) (get_or list k 0))) →
       AreRailsAt stage (take k list) highs lows → AreRailsAt stage (take (k + 1) list) more_highs more_lows
   rails_more highs lows more_highs more_lows high low high_is low_is high_own low_own ones zeros before = record {
-    own_highs = own_more highs more_highs high high_is high_own before.own_highs;
-    own_lows = own_more lows more_lows low low_is low_own before.own_lows;
+    own_highs = subst (All (IsFunctionOf stage.machine.maker)) (sym high_is) (All-push (IsFunctionOf stage.machine.maker) highs high before.own_highs high_own);
+    own_lows = subst (All (IsFunctionOf stage.machine.maker)) (sym low_is) (All-push (IsFunctionOf stage.machine.maker) lows low before.own_lows low_own);
     states = λ column inside. record {
       ones = values_more may_one column highs more_highs high high_is (before.states column inside).ones (ones column inside);
       zeros = values_more may_zero column lows more_lows low low_is (before.states column inside).zeros (zeros column inside);

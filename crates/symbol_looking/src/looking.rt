@@ -1,25 +1,18 @@
 //! Nodes that are looked at.
 ghost use Rattle.std.specs.Prelude.{◌≡◌, ◌<◌, ◌≤◌, ◌++◌, [], None, flat_map, is_some, length, option_map, true, All};
 ghost use Rattle.std.specs.List.{cons_option};
-ghost use Rattle.ports.specs.Ports.{faults_after, RefusedOnce};
+ghost use Rattle.symbol_looking.specs.Words.{faults_after, RefusedOnce, node_of, Hears, column_of, told_by, faults_applied};
+ghost use Rattle.symbol_looking.specs.Words.{AreMerged, told_seen, columns_on, states_in};
 ghost use Rattle.switch_paths.specs.Graphs.{nodes};
-ghost use Rattle.netlist.specs.Words.{node_named, node_of};
-ghost use Rattle.told_lines.specs.Hearing.{Hears};
 ghost use Rattle.script_lang.specs.declared.command.Tell.TheVariants as asked;
-ghost use Rattle.session_meaning.specs.Columns.{column_of};
-ghost use Rattle.session_meaning.specs.Effects.{told_by};
 ghost use Rattle.session_meaning.specs.Refusals as refusal;
-ghost use Rattle.session_meaning.specs.Sinks.{faults_applied};
-ghost use Rattle.symbol_meaning.specs.Merging.{AreMerged};
-ghost use Rattle.symbol_told.specs.Lines.{told_seen};
-ghost use Rattle.symbol_stage.specs.Stages.{columns_on, states_in};
 ghost use Rattle.symbol_looking.specs.Letters.{letter_on, nodes_on};
 ghost use Rattle.symbol_looking.specs.Names.{all_looked, all_told_at, looked_at, looked_told};
 ghost use Rattle.symbol_looking.specs.Tellings.{RefusedTelling, TellsInAll, tellings};
 
 use crate::lines::{Terminal, line_at, node_line};
 use crate::telling::{applied, tell_line};
-use cosmos_session::Session;
+use cosmos_session::{Session, node_in_use, node_refusal};
 use netlist::Circuit;
 use ports::PortFault;
 use script_lang::Name;
@@ -57,18 +50,6 @@ fn look_refusal(session: &Session<SymbolStage>, names: &[Name]) -> Option<Refusa
     node_refusal(session.circuit(), names)
 }
 
-// The first refusal of these names as names of nodes.
-fn node_refusal(circuit: &Circuit, names: &[Name]) -> Option<Refusal>
-    ensures { result ≡ refusal.first_refusal (λ name. refusal.known_refusal (node_of circuit.now.names name)) names.now }
-{
-    for name in names {
-        if circuit.find(name.items()).is_none() {
-            return Some(Refusal::UnknownNode);
-        }
-    }
-    None
-}
-
 // Tells the lines of the node of each of these names, which are in use.
 fn look_all<L: SymbolLines>(
     session: &Session<SymbolStage>,
@@ -100,15 +81,6 @@ fn look_names<L: SymbolLines>(
         tell_node(circuit, stage, node_in_use(circuit, name.items()), out)?;
     }
     Ok(())
-}
-
-// The node of a name, which is in use.
-fn node_in_use(circuit: &Circuit, name: &[u8]) -> usize
-    requires { is_some (node_of circuit.now.names name.now) ≡ true }
-    ensures value { result ≡ node_named circuit.now name.now }
-    ensures within { result < nodes circuit.now.graph }
-{
-    circuit.find(name).unwrap()
 }
 
 // Tells the lines of a node. It reads the circuit twice, once for the transistors with an end at the node and once for those

@@ -1,18 +1,10 @@
 //! Names that are shown.
 ghost use Rattle.std.specs.Prelude.{◌≡◌, ◌<◌, ◌≤◌, ◌∷◌, [], map, All};
-ghost use Rattle.ports.specs.Ports.{faults_after, RefusedOnce};
+ghost use Rattle.symbol_looking.specs.Words.{faults_after, RefusedOnce, IsCircuit, AreWithin, named, column_of, told_by, faults_applied};
+ghost use Rattle.symbol_looking.specs.Words.{AreMerged, Shown, columns_on, states_in};
 ghost use Rattle.switch_paths.specs.Graphs.{nodes};
-ghost use Rattle.netlist.specs.Words.{IsCircuit};
-ghost use Rattle.node_words.specs.Vectors.{AreWithin};
-ghost use Rattle.node_words.specs.Words.{named};
 ghost use Rattle.script_lang.specs.declared.command.Tell.TheVariants as asked;
-ghost use Rattle.session_meaning.specs.Columns.{column_of};
-ghost use Rattle.session_meaning.specs.Effects.{told_by};
 ghost use Rattle.session_meaning.specs.Refusals as refusal;
-ghost use Rattle.session_meaning.specs.Sinks.{faults_applied};
-ghost use Rattle.symbol_meaning.specs.Merging.{AreMerged};
-ghost use Rattle.symbol_meaning.specs.Told.{Shown};
-ghost use Rattle.symbol_stage.specs.Stages.{columns_on, states_in};
 ghost use Rattle.symbol_looking.specs.Letters.{letter_on, nodes_on};
 ghost use Rattle.symbol_looking.specs.Names.{all_shown, shown_of};
 ghost use Rattle.symbol_looking.specs.Tellings.{HearsSome, RefusedTelling, TellsInAll, telling, tellings};

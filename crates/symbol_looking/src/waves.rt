@@ -1,11 +1,7 @@
 //! The waveform line of all columns together.
 ghost use Rattle.std.specs.Prelude.{◌≡◌, ℕ, ◌<◌, ◌∷◌, [], length, All, OnOk};
-ghost use Rattle.ports.specs.Ports.{faults_after, RefusedOnce};
+ghost use Rattle.symbol_looking.specs.Words.{faults_after, RefusedOnce, column_of, wave_by, AreMerged, columns_on, states_in};
 ghost use Rattle.settling.specs.declared.settling.Settled.{Settled};
-ghost use Rattle.session_meaning.specs.Columns.{column_of};
-ghost use Rattle.session_meaning.specs.Effects.{wave_by};
-ghost use Rattle.symbol_meaning.specs.Merging.{AreMerged};
-ghost use Rattle.symbol_stage.specs.Stages.{columns_on, states_in};
 ghost use Rattle.symbol_looking.specs.Letters.{AreRailsAt, nodes_on};
 ghost use Rattle.symbol_looking.specs.Tellings.{HearsSome};
 ghost use Rattle.symbol_looking.specs.Waves.{AreCounted, wave_at, wave_of, wave_with};

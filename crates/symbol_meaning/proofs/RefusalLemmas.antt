@@ -49,7 +49,7 @@ use Rattle.symbol_meaning.specs.Laws.{AlikeButStates, ValuationsRefuseAlike}
 -- ---- letters of the same nodes
 
 -- the letters give states to the same nodes
-abbrev AreAlike : List Letter → List Letter → Type 0
+abbrev pub AreAlike : List Letter → List Letter → Type 0
 AreAlike one other = map (λ (letter : Letter). is_some letter) one ≡ map (λ (letter : Letter). is_some letter) other
 
 -- so the nodes that are given states are the same
@@ -71,16 +71,16 @@ replicas-alike zero s t = refl
 replicas-alike (suc count) s t = ap (λ (rest : List Bool). true ∷ rest) (replicas-alike count s t)
 
 -- a state for a name's nodes is refused as any other
-state-alike : (at : ℕ → Option Refusal) (found : Option (List ℕ)) (s t : Tern) → given_refusal at (with_state s found) ≡ given_refusal at (with_state t found)
+pub state-alike : (at : ℕ → Option Refusal) (found : Option (List ℕ)) (s t : Tern) → given_refusal at (with_state s found) ≡ given_refusal at (with_state t found)
 state-alike at None s t = refl
 state-alike at (Some nodes) s t =
     states-alike at nodes (replicate (length nodes) (Some s)) (replicate (length nodes) (Some t)) (replicas-alike (length nodes) s t)
 
 -- letters for a vector's nodes, if they are as many, else none
-abbrev given_to : (ℕ → Option Refusal) → List ℕ → Bool → List Letter → Option Refusal
+abbrev pub given_to : (ℕ → Option Refusal) → List ℕ → Bool → List Letter → Option Refusal
 given_to at nodes fits letters = given_refusal at (with_letters nodes (spread (length nodes) (if fits then letters else [])))
 
-given_to-alike : (at : ℕ → Option Refusal) (nodes : List ℕ) (one other : List Letter) → AreAlike one other → (fits : Bool) →
+pub given_to-alike : (at : ℕ → Option Refusal) (nodes : List ℕ) (one other : List Letter) → AreAlike one other → (fits : Bool) →
     (length one == length nodes) ≡ fits → (length other == length nodes) ≡ fits → given_to at nodes fits one ≡ given_to at nodes fits other
 given_to-alike at nodes one other same false first second = refl
 given_to-alike at nodes one other same true first second =

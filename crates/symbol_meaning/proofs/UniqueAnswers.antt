@@ -14,12 +14,10 @@ use Rattle.told_lines.specs.Lines as of_one
 use Rattle.told_lines.specs.Lines.{Line}
 use Rattle.session_meaning.specs.Sessions.{SessionData}
 use Rattle.session_meaning.specs.Effects.{unmet_line}
-use Rattle.session_meaning.proofs.UniqueEffects.{performs_unique}
-use Rattle.script_meaning.specs.Runs.{Reading, RefusedLine, IsRefused, Outcome}
+use Rattle.script_meaning.specs.Runs.{RefusedLine, IsRefused, Outcome}
 use Rattle.script_meaning.specs.FirstRefused.{IsObeyed}
-use Rattle.script_meaning.specs.FirstRefused.IsObeyed.{idle, done}
 use Rattle.script_meaning.proofs.FirstRefusedLemmas.{not_refused}
-use Rattle.script_meaning.proofs.UniqueRuns.{runs_unique, same_command}
+use Rattle.script_meaning.proofs.UniqueRuns.{obeyed_unique, runs_unique}
 use Rattle.symbol_script.specs.declared.line.Assignment.{Assignment}
 use Rattle.symbol_script.specs.declared.line.SymbolLine.{SymbolLine}
 use Rattle.symbol_script.specs.declared.line.SymbolLine.TheVariants as asks_for
@@ -265,20 +263,6 @@ module _ (v : Valuations) (sessions others : ℕ → SessionData) (same : (c : �
   merges_unique some (Some (asks_for.Plain command)) lines mores are told more one two = are_merged_unique v.columns some lines mores are told more one two
 
 -- ---- runs
-
--- a line that is obeyed leads to one session, and writes one list of lines
-record LeadsToOne (new later : SessionData) (wrote more : List Line) : Type 0 where
-  end : new ≡ later
-  wrote_is : wrote ≡ more
-
-obeyed_unique : (reading : Reading) (cut : Option ℕ) (old new later : SessionData) (line : ℕ × List ℕ) (wrote more : List Line) (texts others : List GroupTextData) →
-    IsObeyed reading cut old line new wrote texts → IsObeyed reading cut old line later more others → LeadsToOne new later wrote more
-obeyed_unique reading cut old new later line wrote more texts others (idle is) (idle also) = record { end = refl; wrote_is = refl }
-obeyed_unique reading cut old new later line wrote more texts others (idle is) (done command to lines analysed asks performs) = absurd (cc (is.nothing, asks.asked))
-obeyed_unique reading cut old new later line wrote more texts others (done command to lines analysed asks performs) (idle is) = absurd (cc (is.nothing, asks.asked))
-obeyed_unique reading cut old new later line wrote more texts others (done command to lines analysed asks performs) (done command_2 to_2 lines_2 analysed_2 asks_2 performs_2) =
-    let same = performs_unique old to to_2 command command_2 lines lines_2 analysed analysed_2 performs performs_2 (same_command asks asks_2) in
-    record { end = same.end; wrote_is = same.wrote }
 
 -- the lines that are told are determined
 told_unique : (quiet : Bool) (v : Valuations) (cut : Option ℕ) → 0 < v.columns → (start begin : ℕ → SessionData) → ((c : ℕ) → c < v.columns → start c ≡ begin c) →

@@ -38,6 +38,30 @@ pub data AreOneLine : Command → Command → Type 0 where
 
 -- ---- data
 
+abbrev pub KeptStates : Type 0
+KeptStates = List (List ℕ × List Tern)
+
+abbrev pub names_of : KeptStates → List (List ℕ)
+names_of saves = map (λ (save : List ℕ × List Tern). save.0) saves
+
+-- data are alike by these equations
+pub alike_by : {one two : SessionData} → two.circuit ≡ one.circuit → two.watched ≡ one.watched → two.clocks ≡ one.clocks → two.limit ≡ one.limit →
+    two.count ≡ one.count → two.vectors ≡ one.vectors → names_of two.saves ≡ names_of one.saves → two.bound ≡ one.bound → two.large ≡ one.large →
+    two.kept ≡ one.kept → two.fresh ≡ one.fresh → AlikeButStates one two
+alike_by circuit watched clocks limit count vectors saves bound large kept fresh = record {
+  circuit = circuit;
+  watched = watched;
+  clocks = clocks;
+  limit = limit;
+  count = count;
+  vectors = vectors;
+  saves = saves;
+  bound = bound;
+  large = large;
+  kept = kept;
+  fresh = fresh;
+}
+
 -- data that are as others
 alike_as : (one two a b : SessionData) → one ≡ a → two ≡ b → AlikeButStates a b → AlikeButStates one two
 alike_as one two a b first second alike =
@@ -45,108 +69,39 @@ alike_as one two a b first second alike =
 
 -- other states
 alike_states : (one two : SessionData) (s t : List Tern) → AlikeButStates one two → AlikeButStates (record one { state = s }) (record two { state = t })
-alike_states one two s t alike = record {
-  circuit = alike.circuit;
-  watched = alike.watched;
-  clocks = alike.clocks;
-  limit = alike.limit;
-  count = alike.count;
-  vectors = alike.vectors;
-  saves = alike.saves;
-  bound = alike.bound;
-  large = alike.large;
-  kept = alike.kept;
-  fresh = alike.fresh;
-}
+alike_states one two s t alike =
+    alike_by alike.circuit alike.watched alike.clocks alike.limit alike.count alike.vectors alike.saves alike.bound alike.large alike.kept alike.fresh
 
 -- another circuit
 alike_circuits : (one two : SessionData) (c d : CircuitData) (s t : List Tern) → d ≡ c → AlikeButStates one two →
     AlikeButStates (record one { circuit = c; state = s }) (record two { circuit = d; state = t })
-alike_circuits one two c d s t same alike = record {
-  circuit = same;
-  watched = alike.watched;
-  clocks = alike.clocks;
-  limit = alike.limit;
-  count = alike.count;
-  vectors = alike.vectors;
-  saves = alike.saves;
-  bound = alike.bound;
-  large = alike.large;
-  kept = alike.kept;
-  fresh = alike.fresh;
-}
+alike_circuits one two c d s t same alike =
+    alike_by same alike.watched alike.clocks alike.limit alike.count alike.vectors alike.saves alike.bound alike.large alike.kept alike.fresh
 
 -- whether an expectation wasn't met
 alike_missed : (one two : SessionData) (m n : Bool) → AlikeButStates one two → AlikeButStates (record one { missed = m }) (record two { missed = n })
-alike_missed one two m n alike = record {
-  circuit = alike.circuit;
-  watched = alike.watched;
-  clocks = alike.clocks;
-  limit = alike.limit;
-  count = alike.count;
-  vectors = alike.vectors;
-  saves = alike.saves;
-  bound = alike.bound;
-  large = alike.large;
-  kept = alike.kept;
-  fresh = alike.fresh;
-}
+alike_missed one two m n alike =
+    alike_by alike.circuit alike.watched alike.clocks alike.limit alike.count alike.vectors alike.saves alike.bound alike.large alike.kept alike.fresh
 
 -- a waveform line more
 alike_moved : (one two : SessionData) (s t : List Tern) → AlikeButStates one two → AlikeButStates (moved_to one s) (moved_to two t)
-alike_moved one two s t alike = record {
-  circuit = alike.circuit;
-  watched = alike.watched;
-  clocks = alike.clocks;
-  limit = alike.limit;
-  count = ap one_more alike.count;
-  vectors = alike.vectors;
-  saves = alike.saves;
-  bound = alike.bound;
-  large = alike.large;
-  kept = alike.kept;
-  fresh = alike.fresh;
-}
+alike_moved one two s t alike =
+    alike_by alike.circuit alike.watched alike.clocks alike.limit (ap one_more alike.count) alike.vectors alike.saves alike.bound alike.large
+    alike.kept alike.fresh
 
 -- a report's count
 alike_reported : (one two : SessionData) → AlikeButStates one two → AlikeButStates (record one { fresh = 0 }) (record two { fresh = 0 })
-alike_reported one two alike = record {
-  circuit = alike.circuit;
-  watched = alike.watched;
-  clocks = alike.clocks;
-  limit = alike.limit;
-  count = alike.count;
-  vectors = alike.vectors;
-  saves = alike.saves;
-  bound = alike.bound;
-  large = alike.large;
-  kept = alike.kept;
-  fresh = refl;
-}
+alike_reported one two alike =
+    alike_by alike.circuit alike.watched alike.clocks alike.limit alike.count alike.vectors alike.saves alike.bound alike.large alike.kept refl
 
 -- texts of a build
 alike_present : (one two : SessionData) (present : List GroupTextData) → AlikeButStates one two → AlikeButStates (with_present one present) (with_present two present)
-alike_present one two present alike = record {
-  circuit = alike.circuit;
-  watched = alike.watched;
-  clocks = alike.clocks;
-  limit = alike.limit;
-  count = alike.count;
-  vectors = alike.vectors;
-  saves = alike.saves;
-  bound = alike.bound;
-  large = alike.large;
-  kept = ap₂ (λ (bound : Option ℕ) (kept : List GroupTextData). kept_after bound present kept) alike.bound alike.kept;
-  fresh = ap₂ (λ (fresh : ℕ) (kept : List GroupTextData). raised fresh (length (new_texts kept present))) alike.fresh alike.kept;
-}
+alike_present one two present alike =
+    alike_by alike.circuit alike.watched alike.clocks alike.limit alike.count alike.vectors alike.saves alike.bound alike.large
+    (ap₂ (λ (bound : Option ℕ) (kept : List GroupTextData). kept_after bound present kept) alike.bound alike.kept)
+    (ap₂ (λ (fresh : ℕ) (kept : List GroupTextData). raised fresh (length (new_texts kept present))) alike.fresh alike.kept)
 
 -- ---- what is set
-
-abbrev KeptStates : Type 0
-KeptStates = List (List ℕ × List Tern)
-
-abbrev names_of : KeptStates → List (List ℕ)
-names_of saves = map (λ (save : List ℕ × List Tern). save.0) saves
 
 -- states that are kept under the same name
 saves-alike : (one other : KeptStates) (name : List ℕ) (s t : List Tern) → names_of other ≡ names_of one →
@@ -167,98 +122,26 @@ saves-alike (save ∷ one) (more ∷ other) name s t same =
     by false first rest later = ap₂ (λ (own : List ℕ) (names : List (List ℕ)). own ∷ names) first later
 
 alike-setup : (setup : Setup) (one two : SessionData) → AlikeButStates one two → AlikeButStates (setup_after one setup) (setup_after two setup)
-alike-setup (Watch names) one two alike = record {
-  circuit = alike.circuit;
-  watched = ap₂ (λ (front rest : List ℕ). front ++ rest) alike.watched
-      (ap₂ (λ (c : CircuitData) (vectors : List (List ℕ × List ℕ)). all_named c vectors names) alike.circuit alike.vectors);
-  clocks = alike.clocks;
-  limit = alike.limit;
-  count = alike.count;
-  vectors = alike.vectors;
-  saves = alike.saves;
-  bound = alike.bound;
-  large = alike.large;
-  kept = alike.kept;
-  fresh = alike.fresh;
-}
-alike-setup (Limit number) one two alike = record {
-  circuit = alike.circuit;
-  watched = alike.watched;
-  clocks = alike.clocks;
-  limit = refl;
-  count = alike.count;
-  vectors = alike.vectors;
-  saves = alike.saves;
-  bound = alike.bound;
-  large = alike.large;
-  kept = alike.kept;
-  fresh = alike.fresh;
-}
-alike-setup (Clock list) one two alike = record {
-  circuit = alike.circuit;
-  watched = alike.watched;
-  clocks = ap (λ (c : CircuitData). map (clock_of c) list) alike.circuit;
-  limit = alike.limit;
-  count = alike.count;
-  vectors = alike.vectors;
-  saves = alike.saves;
-  bound = alike.bound;
-  large = alike.large;
-  kept = alike.kept;
-  fresh = alike.fresh;
-}
-alike-setup (Keep number) one two alike = record {
-  circuit = alike.circuit;
-  watched = alike.watched;
-  clocks = alike.clocks;
-  limit = alike.limit;
-  count = alike.count;
-  vectors = alike.vectors;
-  saves = alike.saves;
-  bound = refl;
-  large = alike.large;
-  kept = alike.kept;
-  fresh = alike.fresh;
-}
-alike-setup (Widen number) one two alike = record {
-  circuit = alike.circuit;
-  watched = alike.watched;
-  clocks = alike.clocks;
-  limit = alike.limit;
-  count = alike.count;
-  vectors = alike.vectors;
-  saves = alike.saves;
-  bound = alike.bound;
-  large = refl;
-  kept = alike.kept;
-  fresh = alike.fresh;
-}
-alike-setup (Save name) one two alike = record {
-  circuit = alike.circuit;
-  watched = alike.watched;
-  clocks = alike.clocks;
-  limit = alike.limit;
-  count = alike.count;
-  vectors = alike.vectors;
-  saves = saves-alike one.saves two.saves name one.state two.state alike.saves;
-  bound = alike.bound;
-  large = alike.large;
-  kept = alike.kept;
-  fresh = alike.fresh;
-}
-alike-setup (Vector name words) one two alike = record {
-  circuit = alike.circuit;
-  watched = alike.watched;
-  clocks = alike.clocks;
-  limit = alike.limit;
-  count = alike.count;
-  vectors = ap₂ (λ (c : CircuitData) (vectors : List (List ℕ × List ℕ)). with_vector c vectors name words) alike.circuit alike.vectors;
-  saves = alike.saves;
-  bound = alike.bound;
-  large = alike.large;
-  kept = alike.kept;
-  fresh = alike.fresh;
-}
+alike-setup (Watch names) one two alike =
+    alike_by alike.circuit
+    (ap₂ (λ (front rest : List ℕ). front ++ rest) alike.watched (ap₂ (λ (c : CircuitData) (vectors : List (List ℕ × List ℕ)). all_named c vectors names) alike.circuit alike.vectors))
+    alike.clocks alike.limit alike.count alike.vectors alike.saves alike.bound alike.large alike.kept alike.fresh
+alike-setup (Limit number) one two alike =
+    alike_by alike.circuit alike.watched alike.clocks refl alike.count alike.vectors alike.saves alike.bound alike.large alike.kept alike.fresh
+alike-setup (Clock list) one two alike =
+    alike_by alike.circuit alike.watched (ap (λ (c : CircuitData). map (clock_of c) list) alike.circuit) alike.limit alike.count alike.vectors
+    alike.saves alike.bound alike.large alike.kept alike.fresh
+alike-setup (Keep number) one two alike =
+    alike_by alike.circuit alike.watched alike.clocks alike.limit alike.count alike.vectors alike.saves refl alike.large alike.kept alike.fresh
+alike-setup (Widen number) one two alike =
+    alike_by alike.circuit alike.watched alike.clocks alike.limit alike.count alike.vectors alike.saves alike.bound refl alike.kept alike.fresh
+alike-setup (Save name) one two alike =
+    alike_by alike.circuit alike.watched alike.clocks alike.limit alike.count alike.vectors
+    (saves-alike one.saves two.saves name one.state two.state alike.saves) alike.bound alike.large alike.kept alike.fresh
+alike-setup (Vector name words) one two alike =
+    alike_by alike.circuit alike.watched alike.clocks alike.limit alike.count
+    (ap₂ (λ (c : CircuitData) (vectors : List (List ℕ × List ℕ)). with_vector c vectors name words) alike.circuit alike.vectors) alike.saves
+    alike.bound alike.large alike.kept alike.fresh
 
 -- ---- what is run
 

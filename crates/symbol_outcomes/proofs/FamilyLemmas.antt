@@ -9,22 +9,11 @@ use Rattle.session_meaning.specs.Columns.{column_of}
 use Rattle.session_meaning.proofs.ColumnLemmas.{column_ready}
 use Rattle.symbol_meaning.specs.Laws.{AlikeButStates}
 use Rattle.symbol_outcomes.specs.Families.{data_in, IsFamily}
+use Rattle.symbol_outcomes.proofs.AlikeLemmas.{alike_by}
 
 -- data are alike to themselves
 itself : (session : SessionData) → AlikeButStates session session
-itself session = record {
-  circuit = refl;
-  watched = refl;
-  clocks = refl;
-  limit = refl;
-  count = refl;
-  vectors = refl;
-  saves = refl;
-  bound = refl;
-  large = refl;
-  kept = refl;
-  fresh = refl;
-}
+itself session = alike_by refl refl refl refl refl refl refl refl refl refl refl
 
 -- columns that all have the same data
 pub one_family : (columns : ℕ) (session : SessionData) → 0 < columns → IsReady session → IsFamily columns (λ column. session)
@@ -57,17 +46,5 @@ stage_family columns states serves session missed saves held fit named = record 
   ready = λ column inside.
       let ready = column_ready columns states serves session held column inside in
       record { netlist = ready.netlist; states = ready.states; sound = ready.sound; free = ready.free; saved = fit column inside };
-  alike = λ one other inside within. record {
-    circuit = refl;
-    watched = refl;
-    clocks = refl;
-    limit = refl;
-    count = refl;
-    vectors = refl;
-    saves = named one other inside within;
-    bound = refl;
-    large = refl;
-    kept = refl;
-    fresh = refl;
-  };
+  alike = λ one other inside within. alike_by refl refl refl refl refl refl (named one other inside within) refl refl refl refl;
 }

@@ -19,7 +19,8 @@ use Rattle.run_ends.proofs.SizeLemmas.{size_caused}
 use Rattle.session_meaning.specs.declared.fault.Refusal.{Refusal}
 use Rattle.session_meaning.specs.Sessions.{IsReady, SessionData}
 use Rattle.session_meaning.specs.Refusals.{refusal_of}
-use Rattle.session_meaning.specs.Effects.{state_given, told_by, with_told}
+use Rattle.session_meaning.specs.Effects.{state_given, told_by, with_told, Effect}
+use Rattle.session_meaning.specs.Preparing.{builds}
 use Rattle.session_meaning.proofs.OutcomeLemmas.{still_performs}
 use Rattle.session_meaning.proofs.EffectLemmas.{Ends}
 use Rattle.session_meaning.proofs.EffectLemmas.Ends.{refused as refused_so, too_large as large_so, performed as performed_so}
@@ -62,30 +63,24 @@ data LineEnds (reading : Reading) (cut : Option ℕ) (session : SessionData) (li
       LineEnds reading cut session line
   refused_for : (cause : Cause) → IsRefused reading cut session line cause → LineEnds reading cut session line
 
--- a command that is given values is done if it isn't refused
+-- a command that builds nothing is refused, or done
+done_unless : (session : SessionData) (command : Command) (new : SessionData) (lines : List Line) → builds command ≡ false → Effect session command new lines →
+    Ends session command
+done_unless session command new lines still effect = by (refusal_of session command) refl
+  where
+    by : (found : Option Refusal) → refusal_of session command ≡ found → Ends session command
+    by (Some refusal) is = refused_so refusal is
+    by None is = performed_so new lines [] (still_performs session new command lines still is effect)
+
+-- so one that is given values is done if it isn't refused
 values_end : (session : SessionData) (verb : ValueVerb) (list : List (List ℕ × Value)) → Ends session (command_with verb list)
-values_end session Set list = by (refusal_of session (family.Give (give.Set list))) refl
-  where
-    by : (found : Option Refusal) → refusal_of session (family.Give (give.Set list)) ≡ found → Ends session (family.Give (give.Set list))
-    by (Some refusal) is = refused_so refusal is
-    by None is =
-        let new : SessionData = record session { state = state_given session (give.Set list) } in
-        performed_so new [] [] (still_performs session new (family.Give (give.Set list)) [] refl is (refl, refl))
-values_end session Charge list = by (refusal_of session (family.Give (give.Charge list))) refl
-  where
-    by : (found : Option Refusal) → refusal_of session (family.Give (give.Charge list)) ≡ found → Ends session (family.Give (give.Charge list))
-    by (Some refusal) is = refused_so refusal is
-    by None is =
-        let new : SessionData = record session { state = state_given session (give.Charge list) } in
-        performed_so new [] [] (still_performs session new (family.Give (give.Charge list)) [] refl is (refl, refl))
-values_end session Expect list = by (refusal_of session (family.Tell (tell.Expect list))) refl
-  where
-    by : (found : Option Refusal) → refusal_of session (family.Tell (tell.Expect list)) ≡ found → Ends session (family.Tell (tell.Expect list))
-    by (Some refusal) is = refused_so refusal is
-    by None is =
-        let lines : List Line = told_by session (tell.Expect list) in
-        let new : SessionData = with_told session lines in
-        performed_so new lines [] (still_performs session new (family.Tell (tell.Expect list)) lines refl is (refl, refl))
+values_end session Set list =
+    done_unless session (family.Give (give.Set list)) (record session { state = state_given session (give.Set list) }) [] refl (refl, refl)
+values_end session Charge list =
+    done_unless session (family.Give (give.Charge list)) (record session { state = state_given session (give.Charge list) }) [] refl (refl, refl)
+values_end session Expect list =
+    let lines : List Line = told_by session (tell.Expect list) in
+    done_unless session (family.Tell (tell.Expect list)) (with_told session lines) lines refl (refl, refl)
 
 module _ (quiet : Bool) (values : List ℕ → Bool) (cut : Option ℕ) (session : SessionData) (line : ℕ × List ℕ) where
   -- how it is read there

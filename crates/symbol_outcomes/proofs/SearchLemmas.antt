@@ -7,7 +7,7 @@ use Rattle.ternary.specs.declared.tern.Tern.{Tern}
 use Rattle.switch_paths.specs.Switching.{state_at}
 use Rattle.switch_paths.specs.declared.switching.SwitchState.{SwitchState}
 use Rattle.switch_paths.specs.declared.switching.SwitchState.TheVariants.{Open, Closed, Unknown}
-use Rattle.truth_makers.proofs.LetterLemmas.{same_state}
+use Rattle.ternary.proofs.TernLemmas.{same_or_other}
 use Rattle.symbol_meaning.specs.Merging.{AreOfAll, IsGreatest, IsMarked, IsOfAll}
 
 -- the first of so many columns for which a test holds
@@ -64,7 +64,7 @@ of_all {A = A} same columns some values = by (other_column same values (values 0
 
 -- of the state of a node
 pub letter_of_all : (columns : ℕ) → 0 < columns → (states : ℕ → Tern) → (letter : Option Tern) × IsOfAll columns states letter
-letter_of_all columns some states = of_all same_state columns some states
+letter_of_all columns some states = of_all same_or_other columns some states
 
 -- and of a switch's
 same_switch : (a b : SwitchState) → (a ≡ b) ⊎ (a ≢ b)

@@ -1,6 +1,6 @@
 //! Reading a line of a symbolic script.
-ghost use Rattle.std.specs.Prelude.{◌≡◌, ◌⊎◌, ◌∷◌, Err, Ok, IfErr, IfOk, MatchOption, option_map};
-ghost use Rattle.script_lang.specs.Parts.{all_of, parts_of, HasNoEquals, IsLastEquals};
+ghost use Rattle.std.specs.Prelude.{◌≡◌, ◌⊎◌, ◌∷◌, Err, Ok, IfErr, IfOk};
+ghost use Rattle.script_lang.specs.Parts.{all_of};
 ghost use Rattle.script_lang.specs.Commands.{reading_of, reading_of_words};
 ghost use Rattle.symbol_lines.specs.Commands.{symbol_command_of};
 ghost use Rattle.symbol_script.specs.declared.line.SymbolLine.TheVariants as asked;
@@ -8,7 +8,7 @@ ghost use Rattle.symbol_script.specs.Lines.{asked_by, asked_by_words, asked_plai
 
 use crate::line::{Assignment, AssignmentList, SymbolLine, ValueVerb};
 use line_words::{LineFault, Words, check_line, is_comment, words};
-use script_lang::{Name, ScriptFault, read_command};
+use script_lang::{Name, ScriptFault, cut_at_last_equals, read_command};
 use std::alloc::Global;
 use symbol_lines::{read_symbol_command, read_symbol_value};
 use ternary::NoMemory;
@@ -216,24 +216,4 @@ fn assignment(alloc: Global, word: &[u8], dashes: bool) -> Result<Option<Assignm
         text: Name::from_slice(alloc, text)?,
         value,
     }))
-}
-
-// The name and the text of a word `name=text`, cut at its last `=`, if both have a byte.
-fn cut_at_last_equals(word: &[u8]) -> Option<(&[u8], &[u8])>
-    ensures { option_map (λ parts. (parts.0.now, parts.1.now)) result ≡ parts_of word.now }
-{
-    let at = last_equals(word)?;
-    let (name, text) = (&word[..at], &word[at + 1..]);
-    if name.is_empty() || text.is_empty() {
-        None
-    } else {
-        Some((name, text))
-    }
-}
-
-// The place of the last `=` of a word.
-fn last_equals(word: &[u8]) -> Option<usize>
-    ensures { MatchOption result (HasNoEquals word.now) (IsLastEquals word.now) }
-{
-    word.iter().rposition(|&byte| byte == b'=')
 }

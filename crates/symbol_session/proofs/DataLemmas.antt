@@ -24,6 +24,7 @@ use Rattle.session_meaning.proofs.ColumnLemmas.{column_ready}
 use Rattle.formula_functions.specs.Tables.{TableData}
 use Rattle.symbol_meaning.specs.Readings.{Valuations}
 use Rattle.symbol_outcomes.specs.Families.{IsFamily}
+use Rattle.symbol_outcomes.proofs.AlikeLemmas.{alike_by}
 use Rattle.symbol_equiv.specs.Sharing.{KeepsFunctions}
 use Rattle.symbol_session.specs.Sessions.{AreKeptRails, HasTrue, IsSymbolSession, Save, Stays, SymbolData, data_of, highs_of, lows_of, maker_of, missed_by, rest_of, saves_by, states_kept, valuations_by}
 
@@ -140,6 +141,15 @@ goes_by old session same keeps always = record {
   text = refl;
 }
 
+-- so too where these are the data of a session, seen from outside
+pub went : (d old : SymbolData) → old ≡ d → (session : HeldSession StageData) → columns_on session.stage ≡ columns_on old.session.stage →
+    KeepsGiven columns_on GivesLetters letter_given bound_in old.session.stage session.stage → HasTrue (maker_of d) → GoesOn old (record old { session = session })
+went d old same session columns kept always = goes_by old session columns kept (subst (λ (was : SymbolData). HasTrue (maker_of was)) (sym same) always)
+
+-- a session has a column
+pub some_columns : (d old : SymbolData) → old ≡ d → IsHeldSession columns_on states_in ServesIn d.session → 0 < columns_on old.session.stage
+some_columns d old same held = subst (λ (was : SymbolData). 0 < columns_on was.session.stage) (sym same) (omega (arith, held.some))
+
 -- or its stage is the same
 pub goes_same : (old : SymbolData) (session : HeldSession StageData) → session.stage ≡ old.session.stage → GoesOn old (record old { session = session })
 goes_same old session same = record {
@@ -222,19 +232,8 @@ family_of d own held = record {
         free = ready.free;
         saved = saves_fit (maker_of d) (nodes d.session.core.circuit.graph) d.saves (drop 1 d.kept) own.saved column within;
       };
-  alike = λ one other first second. record {
-    circuit = refl;
-    watched = refl;
-    clocks = refl;
-    limit = refl;
-    count = refl;
-    vectors = refl;
-    saves = names_alike (maker_of d) d.saves (drop 1 d.kept) one other;
-    bound = refl;
-    large = refl;
-    kept = refl;
-    fresh = refl;
-  };
+  alike = λ one other first second.
+      alike_by refl refl refl refl refl refl (names_alike (maker_of d) d.saves (drop 1 d.kept) one other) refl refl refl refl;
 }
   where
     names_alike : (symbols : Symbols) (saves : List Save) (rails : List Function) (one other : ℕ) →

@@ -1,5 +1,6 @@
 -- `expect` in all columns: in each the command of a plain script tells what isn't met there, and that is remembered.
 use Rattle.std.proofs.Common.{◌≡◌, ℕ, ◌<◌, ◌⊎◌, ◌||◌, ◌^◌, Bool, true, false, List, [], ◌∷◌, ◌++◌, length, map, All, Option, None, Some, Result, Ok, Err, inl, inr, refl, sym, ap, ap₂, subst, ◌∙◌, append-nil, arith, if◌then◌else◌}
+use Rattle.std.proofs.Math.Bool.{or-false}
 use Rattle.std.specs.Prelude.{filter_map, IfErr}
 use Rattle.std.specs.List.{cons_option, list_all, list_any}
 use Rattle.std.proofs.Math.Pow.{pow-lt}
@@ -51,10 +52,6 @@ use Rattle.symbol_session.specs.Sessions.{IsSymbolSession, Stays, SymbolData, da
 use Rattle.symbol_session.specs.Turns.{BreaksAsked, DoesHeard, TakesAsked, begun, turn_expected, unheard}
 use Rattle.symbol_session.proofs.DataLemmas.{inside_columns}
 use Rattle.symbol_session.proofs.SilentLemmas.{is_wave, silent_railed}
-
-or_none : (test : Bool) → (test || false) ≡ test
-or_none true = refl
-or_none false = refl
 
 -- ---- what is told
 
@@ -244,7 +241,7 @@ module _ {H : Type 0} (symbols : Symbols) (hear : H → Telling → H) (part : H
       let none = nothing_told whole.told (all_unmet v (data_of old) list whole.told whole.right) (sym whole.some) in
       let lines : unmet_in_column v (data_of old) list column ≡ [] = met_of v (data_of old) list (subst (AreToldOf v (data_of old) list) none whole.right) column inside in
       let missed : missed_after v (data_of old) list column ≡ (data_of old column).missed =
-      ap (λ (wrote : List Line). (data_of old column).missed || list_any of_one.is_unmet wrote) lines ∙ or_none (data_of old column).missed in
+      ap (λ (wrote : List Line). (data_of old column).missed || list_any of_one.is_unmet wrote) lines ∙ or-false (data_of old column).missed in
       same column inside ∙ sym (ap (λ (test : Bool). record (data_of old column) { missed = test }) missed)
 
   -- what was told is remembered in each column

@@ -1,5 +1,5 @@
 -- Where a name stands among those that keep states: name by name, its number, the place of its rails, and how many nodes it has.
-use Rattle.std.proofs.Common.{◌≡◌, ℕ, suc, ◌+◌, ◌-◌, ◌<◌, ◌≤◌, Bool, true, false, List, [], ◌∷◌, ◌++◌, length, map, refl, sym, ap, ◌∙◌, arith, if◌then◌else◌}
+use Rattle.std.proofs.Common.{◌≡◌, ℕ, suc, ◌+◌, ◌-◌, ◌<◌, ◌≤◌, Bool, true, false, List, [], ◌∷◌, ◌++◌, length, map, refl, sym, ap, subst, ◌∙◌, arith, if◌then◌else◌}
 use Rattle.std.specs.Prelude.{slice_set}
 use Rattle.std.specs.List.{range_with_len}
 use Rattle.std.proofs.lemmas.List.FromFn.{map-range_with_len_more}
@@ -23,7 +23,10 @@ pub record IsFoundBy (saves : List Save) (name : List ℕ) (k place : ℕ) (left
 pub found_none : (saves : List Save) (name : List ℕ) → IsFoundBy saves name 0 1 saves
 found_none saves name = record { there = refl; number = omega arith; stands = refl; nodes = refl; room = refl }
 
-module _ (saves : List Save) (name : List ℕ) (k place : ℕ) (save : Save) (rest : List Save) (is : IsFoundBy saves name k place (save ∷ rest)) where
+module _ (saves : List Save) (name : List ℕ) (k place : ℕ) (save : Save) (left rest : List Save) (heads : left ≡ save ∷ rest) (found : IsFoundBy saves name k place left) where
+  is : IsFoundBy saves name k place (save ∷ rest)
+  is = subst (IsFoundBy saves name k place) heads found
+
   -- another name is behind the one that isn't it
   pub found_then : is_named name save ≡ false → IsFoundBy saves name (k + 1) (place + (save.1 + save.1)) rest
   found_then other = by (is_named name save) other is.there is.number is.stands is.nodes

@@ -3,7 +3,7 @@ use Rattle.std.proofs.Common.{◌≡◌, ℕ, ◌+◌, ◌-◌, ◌<◌, ◌≤�
 use Rattle.std.proofs.lemmas.Bool.Decides.{nat_tests}
 use Rattle.std.proofs.lemmas.List.Sums.{sum_by-cons}
 use Rattle.std.proofs.lemmas.List.{length-drop, map-append, map_more, take_all}
-use Rattle.std.proofs.lemmas.List.Elements.{All-append, All-cons, All-drop, All-nil, All-take}
+use Rattle.std.proofs.lemmas.List.Elements.{All-append, All-drop, All-push, All-take}
 use Rattle.ternary.specs.declared.tern.Tern.{Tern}
 use Rattle.ternary.specs.declared.tern.Tern.TheVariants.{Zero}
 use Rattle.ternary.specs.Tern.{may_one, may_zero}
@@ -67,14 +67,6 @@ module _ (stage : StageData) (n : ℕ) (has : HasNodes stage n) (k : ℕ) (withi
       ∙ ap (λ (own : Bool). map value (take k states) ++ own ∷ []) here
       ∙ sym (map_more value states k Zero (omega (arith, within, count)))
 
-  -- one function more of a maker
-  own_more : (rails more : List Function) (rail : Function) → more ≡ rails ++ rail ∷ [] → IsFunctionOf stage.machine.maker rail →
-      All (IsFunctionOf stage.machine.maker) rails → All (IsFunctionOf stage.machine.maker) more
-  own_more rails more rail is own all =
-      subst (All (IsFunctionOf stage.machine.maker)) (sym is)
-      (All-append (IsFunctionOf stage.machine.maker) rails (rail ∷ []) all
-      (All-cons (IsFunctionOf stage.machine.maker) rail [] own (All-nil (IsFunctionOf stage.machine.maker))))
-
   -- the rails of one node more
   pub rails_more : (highs lows more_highs more_lows : List Function) (high low : Function) → more_highs ≡ highs ++ high ∷ [] →
       more_lows ≡ lows ++ low ∷ [] → IsFunctionOf stage.machine.maker high → IsFunctionOf stage.machine.maker low →
@@ -84,8 +76,8 @@ module _ (stage : StageData) (n : ℕ) (has : HasNodes stage n) (k : ℕ) (withi
   rails_more highs lows more_highs more_lows high low high_is low_is high_own low_own ones zeros before = record {
     high_count = omega (arith, ap (λ (list : List Function). length list) high_is, length-append highs (high ∷ []), before.high_count);
     low_count = omega (arith, ap (λ (list : List Function). length list) low_is, length-append lows (low ∷ []), before.low_count);
-    own_highs = own_more highs more_highs high high_is high_own before.own_highs;
-    own_lows = own_more lows more_lows low low_is low_own before.own_lows;
+    own_highs = subst (All (IsFunctionOf stage.machine.maker)) (sym high_is) (All-push (IsFunctionOf stage.machine.maker) highs high before.own_highs high_own);
+    own_lows = subst (All (IsFunctionOf stage.machine.maker)) (sym low_is) (All-push (IsFunctionOf stage.machine.maker) lows low before.own_lows low_own);
     states = λ column inside. record {
       ones = values_more may_one column inside highs more_highs high high_is (before.states column inside).ones (ones column inside);
       zeros = values_more may_zero column inside lows more_lows low low_is (before.states column inside).zeros (zeros column inside);

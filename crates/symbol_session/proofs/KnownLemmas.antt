@@ -5,6 +5,7 @@ use Rattle.std.specs.Prelude.{nat_lt, option_map, Result}
 use Rattle.std.proofs.lemmas.Bool.{cases_Bool, ltb-false, ltb-true}
 use Rattle.std.proofs.lemmas.List.Folds.{list_any-append}
 use Rattle.std.proofs.lemmas.Slice.Eq.{bytes_eq-Decides}
+use Rattle.std.proofs.Math.Bool.{or-false, or-true}
 use Rattle.line_words.specs.Files.{is_cut}
 use Rattle.script_lang.specs.declared.command.ScriptFault.{ScriptFault}
 use Rattle.formulas.specs.declared.formula.Part.{Part}
@@ -26,14 +27,6 @@ use Rattle.symbol_session.specs.Asked.{IsKnown}
 
 -- ---- a name that is defined is no variable, for good
 
-or_none : (test : Bool) → (test || false) ≡ test
-or_none true = refl
-or_none false = refl
-
-or_true : (test : Bool) → (test || true) ≡ true
-or_true true = refl
-or_true false = refl
-
 -- another name that appears doesn't make it one
 name_out : (d : NamesData) (own name : List ℕ) → has_name d.defined name ≡ true → has_name (with_name d own).variables name ≡ has_name d.variables name
 name_out d own name there =
@@ -41,7 +34,7 @@ name_out d own name there =
       | inl before ↦ ap (λ (names : NamesData). has_name names.variables name) (with_name_there d own before)
       | inr absent ↦ ap (λ (names : NamesData). has_name names.variables name) (with_name_new d own absent) ∙ has_name_push d.variables own name
           ∙ ap (λ (test : Bool). has_name d.variables name || test) (differs (bytes_eq name own) refl (neither (has_name d.defined own) (has_name d.variables own) absent).0)
-          ∙ or_none (has_name d.variables name)
+          ∙ or-false (has_name d.variables name)
     ]
   where
     differs : (test : Bool) → bytes_eq name own ≡ test → has_name d.defined own ≡ false → bytes_eq name own ≡ false
@@ -138,7 +131,7 @@ module _ (quiet : Bool) (v : Valuations) (d : NamesData) (names : List (List ℕ
       let (undefined, unused) = may_define d l name defines right_here in
       let behind : has_name (with_line d l).defined name ≡ true =
       ap (λ (defined : Option (List ℕ)). has_name (with_definition used defined).defined name) defines ∙ has_name_push used.defined name name
-      ∙ ap (λ (test : Bool). has_name used.defined name || test) ((bytes_eq-Decides name name).1 refl) ∙ or_true (has_name used.defined name) in
+      ∙ ap (λ (test : Bool). has_name used.defined name || test) ((bytes_eq-Decides name name).1 refl) ∙ or-true (has_name used.defined name) in
       let no_variable : has_name v.variables name ≡ false =
       sym (ap (λ (variables : List (List ℕ)). has_name variables name) variables_here)
       ∙ lines_out (map names_of_line (read_behind quiet cut rest)) (with_line d l) name behind

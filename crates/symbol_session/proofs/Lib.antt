@@ -8,7 +8,6 @@ pub mod FaultLemmas
 pub mod QuietLemmas
 pub mod StartLemmas
 pub mod TidyLemmas
-mod TextWalks
 pub mod GivingLemmas
 pub mod SilentLemmas
 pub mod TellLemmas

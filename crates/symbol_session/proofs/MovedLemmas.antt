@@ -1,9 +1,11 @@
 -- A step, a phase and the placing of letters, of a session: they are those of the script's columns, beside what was missed and kept there.
-use Rattle.std.proofs.Common.{◌≡◌, ℕ, ◌<◌, List, [], ◌∷◌, length, map, Result, Ok, Err, refl, sym, ap, subst, ◌∙◌}
+use Rattle.std.proofs.Common.{◌≡◌, ℕ, ◌<◌, List, [], ◌∷◌, length, map, Result, Ok, Err, refl, sym, ap, subst, ◌∙◌, arith}
 use Rattle.std.specs.Prelude.{IfErr, OnOk}
 use Rattle.std.proofs.lemmas.List.{length-map}
 use Rattle.std.proofs.lemmas.List.Elements.{All-cons, All-nil}
 use Rattle.ternary.specs.declared.tern.Tern.{Tern}
+use Rattle.netlist.specs.Circuits.{CircuitData}
+use Rattle.switch_paths.specs.Graphs.{nodes}
 use Rattle.switch_paths.specs.Switching.{state_at}
 use Rattle.ports.specs.declared.ports.PortFault.{PortFault}
 use Rattle.ports.specs.declared.ports.PortFault.TheVariants as port
@@ -31,7 +33,7 @@ use Rattle.symbol_equiv.specs.Waves.{AreRailed}
 use Rattle.symbol_run.specs.Turns.{faults_stopped, RefusedStopped, StopsAt}
 use Rattle.symbol_session.specs.Moves.{Move, MovesBy, heard_by, one_step, waves_by}
 use Rattle.symbol_session.specs.Sessions.{IsSymbolSession, Stays, SymbolData, data_of, maker_of}
-use Rattle.symbol_session.proofs.DataLemmas.{GoesOn, data_on}
+use Rattle.symbol_session.proofs.DataLemmas.{GoesOn, data_on, held_on}
 use Rattle.symbol_session.proofs.MoveLemmas.{settled_lines, stepped_lines, waved}
 
 -- these data with others of what was missed and kept
@@ -111,6 +113,20 @@ module _ (columns : ℕ) (some : 0 < columns) (old new : ℕ → SessionData) wh
 
   pub out_leaves : RanOut columns old new → Leaves (old 0) (new 0) (old 0).count
   out_leaves out = leaves_as (old 0) (new 0) (record (old 0) { state = (new 0).state }) (out.each 0 some) refl refl
+
+-- so a session that goes on is one still
+pub held_left : (old new : SymbolData) → IsSymbolSession old → GoesOn old new → (count : ℕ) →
+    Leaves (column_of states_in old.session 0) (column_of states_in new.session 0) count → new.count ≡ count → IsSymbolSession new
+held_left old new own goes count left is =
+    held_on old new own goes (omega (arith, ap (λ (circuit : CircuitData). nodes circuit.graph) left.circuit)) (is ∙ sym left.counts)
+
+-- so too where a waveform line more is counted
+pub held_more : (old new : SymbolData) → IsSymbolSession old → GoesOn old new → (count : ℕ) → count ≡ one_more old.count →
+    Leaves (column_of states_in old.session 0) (column_of states_in new.session 0) (one_more (column_of states_in old.session 0).count) →
+    IsSymbolSession (record new { count = count })
+held_more old new own goes count more left =
+    held_left old (record new { count = count }) own (goes_counted old new goes count) (one_more (column_of states_in old.session 0).count) left
+    (more ∙ ap one_more own.counted)
 
 -- ---- the line
 

@@ -1,5 +1,6 @@
 -- In which columns an expectation wasn't met: the function that holds there goes on in the place of the one before, assignment by assignment.
 use Rattle.std.proofs.Common.{◌≡◌, ℕ, zero, suc, ◌+◌, take, ◌<◌, ◌||◌, Bool, true, false, not, List, [], ◌∷◌, ◌++◌, length, drop, All, None, Some, Result, Ok, Err, refl, sym, ap, ap₂, subst, ◌∙◌, arith, if◌then◌else◌}
+use Rattle.std.proofs.Math.Bool.{or-false}
 use Rattle.std.specs.Prelude.{IfOk, slice_index_or, slice_set}
 use Rattle.std.specs.List.{cons_option, list_any}
 use Rattle.std.proofs.lemmas.List.{map-append}
@@ -151,10 +152,6 @@ or_both : (a b c : Bool) → ((a || b) || c) ≡ (a || (b || c))
 or_both true b c = refl
 or_both false b c = refl
 
-or_none : (a : Bool) → (a || false) ≡ a
-or_none true = refl
-or_none false = refl
-
 any_append : (lines more : List Line) → list_any is_unmet (lines ++ more) ≡ (list_any is_unmet lines || list_any is_unmet more)
 any_append [] more = refl
 any_append (line ∷ lines) more =
@@ -173,7 +170,7 @@ take_next {A} (first ∷ list) (suc k) one is =
 -- nothing yet
 pub notes_none : (d : SymbolData) → NotesMissed d [] d
 notes_none d = record {
-  missed = λ column inside. sym (or_none (data_of d column).missed);
+  missed = λ column inside. sym (or-false (data_of d column).missed);
   others = λ column inside. refl;
   circuit = refl;
 }

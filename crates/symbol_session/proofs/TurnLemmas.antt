@@ -31,6 +31,7 @@ use Rattle.symbol_meaning.specs.Runs.{AreRefused, IsObeyedInAll, asked_in}
 use Rattle.symbol_told.specs.Lines.{Telling}
 use Rattle.symbol_told.specs.Printing.{lines_told}
 use Rattle.symbol_run.specs.declared.session.SymbolFault.{SymbolFault}
+use Rattle.symbol_run.proofs.RunLemmas.{obeyed_to}
 use Rattle.symbol_run.specs.Turns.{BreaksLine, OutgrowsInAll, StaysUnheard, TakesTurnInAll}
 use Rattle.symbol_outcomes.specs.Families.{IsFamily}
 use Rattle.symbol_outcomes.proofs.BreakLemmas.{breaks_behind, breaks_cycling, breaks_unheard}
@@ -109,7 +110,7 @@ module _ (quiet : Bool) (v : Valuations) (cut : Option ℕ) (old : ℕ → Sessi
         is.times is.mid is.begun.done is.begun.left moves.lines whole (reads ∙ ap (λ (one : SymbolLine). Ok (Some one)) is.asks_for) is.allowed is.built is.begun.split
         moves.each moves.merged
 
-    pub takes_turn : (result : Result Turn SymbolFault) → TakesAsked symbols hear part v old asked new before after before_texts known result →
+    takes_turn : (result : Result Turn SymbolFault) → TakesAsked symbols hear part v old asked new before after before_texts known result →
         TakesTurnInAll hear part quiet v cut old line rest new before after before_texts known result
     takes_turn (Ok Accepted) does = record {
       told = does.told;
@@ -122,7 +123,7 @@ module _ (quiet : Bool) (v : Valuations) (cut : Option ℕ) (old : ℕ → Sessi
     takes_turn (Ok (TooLarge fault)) (are, stays) = (outgrown_in_all family fault are, stays)
     takes_turn (Err fault) breaks = broken breaks
 
-    pub takes_railed : (result : Result Turn SymbolFault) → TakesAsked symbols hear part v old asked new before after before_texts known result →
+    takes_railed : (result : Result Turn SymbolFault) → TakesAsked symbols hear part v old asked new before after before_texts known result →
         TakesTurnRailed symbols hear quiet v cut old line new before after before_texts known result
     unfolding obeyed_in_all
     takes_railed (Ok Accepted) does = record {
@@ -136,6 +137,11 @@ module _ (quiet : Bool) (v : Valuations) (cut : Option ℕ) (old : ℕ → Sessi
     takes_railed (Ok (Refused code)) (are, stays) = (refused_in_all code are, stays)
     takes_railed (Ok (TooLarge fault)) (are, stays) = (outgrown_in_all family fault are, stays)
     takes_railed (Err fault) breaks = tt
+
+    pub takes_asked : (result : Result Turn SymbolFault) → TakesAsked symbols hear part v old asked new before after before_texts known result →
+        TakesTurnInAll hear part quiet v cut old line rest new before after before_texts known result
+        × TakesTurnRailed symbols hear quiet v cut old line new before after before_texts known result
+    takes_asked result does = (takes_turn result does, takes_railed result does)
 
 -- ---- a line that asks for nothing, or is refused as it is read
 
@@ -219,13 +225,7 @@ pub turn_to : {H : Type 0} (hear : H → Telling → H) (part : H → Telling �
 turn_to hear part quiet v cut old mid new line rest before after asked known Accepted same is = record {
   told = is.told;
   texts = is.texts;
-  obeyed = record {
-    lines = is.obeyed.lines;
-    each = λ column inside.
-        subst (λ (data_now : SessionData). IsObeyed (reading_under quiet (v.values column)) cut (old column) line data_now (is.obeyed.lines column) is.texts)
-        (sym (same column inside)) (is.obeyed.each column inside);
-    merged = is.obeyed.merged;
-  };
+  obeyed = obeyed_to quiet v cut old mid new line (lines_told is.told) is.texts same is.obeyed;
   heard = is.heard;
   analysed = is.analysed;
 }

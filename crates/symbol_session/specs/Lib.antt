@@ -6,3 +6,4 @@ pub mod Keeping
 pub mod Starting
 pub mod Missing
 pub mod Tidying
+pub mod Words

@@ -2,11 +2,8 @@
 
 ghost use Rattle.std.specs.Prelude.{◌≡◌, ◌<◌, ℕ, Ok, false, IfErr, IfOk, OnOk};
 ghost use Rattle.symbol_lines.specs.declared.commands.SymbolCommand.TheVariants as command;
-ghost use Rattle.symbol_lines.specs.Names.{has_name};
-ghost use Rattle.formula_functions.specs.Tables.{value_named, with_named};
-ghost use Rattle.formula_functions.specs.Truths.{truth_of};
-ghost use Rattle.truth_makers.specs.Makers.{columns_in, function_holds, IsFunctionOf};
-ghost use Rattle.symbol_equiv.specs.Sharing.{KeepsFunctions};
+ghost use Rattle.symbol_session.specs.Words.{has_name, value_named, with_named, truth_of, columns_in, function_holds, IsFunctionOf};
+ghost use Rattle.symbol_session.specs.Words.{KeepsFunctions};
 ghost use Rattle.symbol_script.specs.declared.line.SymbolLine.TheVariants as asks;
 ghost use Rattle.symbol_session.specs.Asked.{AreSame, NamesAsked};
 ghost use Rattle.symbol_session.specs.Sessions.{Stays, data_of, maker_of, truths_by};

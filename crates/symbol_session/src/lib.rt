@@ -22,7 +22,6 @@ mod moving;
 mod obeying;
 mod quiet_start;
 mod saving;
-mod script;
 mod session;
 mod setting;
 mod sharing;

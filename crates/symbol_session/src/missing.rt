@@ -1,12 +1,8 @@
 //! In which columns an expectation wasn't met so far.
 
 ghost use Rattle.std.specs.Prelude.{◌≡◌, ◌<◌, ◌+◌, ◌||◌, ◌∷◌, [], ℕ, length, drop, slice_index_or, slice_set, All, IfOk, OnOk};
-ghost use Rattle.truth_makers.specs.Makers.{function_holds, IsFunctionOf};
-ghost use Rattle.symbol_stage.specs.Stages.{columns_on};
-ghost use Rattle.symbol_giving.specs.Letters.{IsTableOf, OnlyMakes};
-ghost use Rattle.symbol_giving.specs.StandIns.{IsGiven};
-ghost use Rattle.symbol_expecting.specs.Missing.{AreWantedOf};
-ghost use Rattle.symbol_equiv.specs.Sharing.{KeepsFunctions};
+ghost use Rattle.symbol_session.specs.Words.{function_holds, IsFunctionOf, columns_on, IsTableOf, OnlyMakes, IsGiven, AreWantedOf};
+ghost use Rattle.symbol_session.specs.Words.{KeepsFunctions};
 ghost use Rattle.symbol_session.specs.Missing.{IsMissedMade, NotesMissed, isnt_met};
 ghost use Rattle.symbol_session.specs.Sessions.{Stays, maker_of};
 

@@ -1,12 +1,9 @@
 //! A line, read and obeyed in all columns.
 
 ghost use Rattle.std.specs.Prelude.{◌≡◌, ◌∷◌, ℕ, List, Ok, IfErr};
-ghost use Rattle.script_lang.specs.Forms.{IsFormed};
-ghost use Rattle.script_meaning.specs.Codes.{script_code};
-ghost use Rattle.symbol_run.specs.Turns.{faults_stopped, RefusedStopped, StopsAt, TakesTurnInAll};
+ghost use Rattle.symbol_session.specs.Words.{IsFormed, script_code, faults_stopped, RefusedStopped, StopsAt, TakesTurnInAll};
+ghost use Rattle.symbol_session.specs.Words.{KeepsFunctions, TakesTurnRailed};
 ghost use Rattle.symbol_script.specs.declared.line.SymbolLine.TheVariants as asks;
-ghost use Rattle.symbol_equiv.specs.Sharing.{KeepsFunctions};
-ghost use Rattle.symbol_equiv.specs.Waves.{TakesTurnRailed};
 ghost use Rattle.symbol_session.specs.Asked.{IsAskable, IsKnown, IsOfScript};
 ghost use Rattle.symbol_session.specs.Sessions.{ServesLines, Stays, data_of, maker_of, truths_by, valuations_by};
 ghost use Rattle.symbol_session.specs.Turns.{HasNext, TakesAsked, turn_unread};

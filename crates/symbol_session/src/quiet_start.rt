@@ -5,7 +5,6 @@ ghost use Rattle.line_words.specs.Files as file;
 ghost use Rattle.symbol_meaning.specs.Scripts.{read_of, variables_of};
 
 use crate::SymbolSession;
-use crate::script::ScriptText;
 use crate::starting::name_at;
 use netlist::Circuit;
 use script_lang::{Name, NameList};
@@ -15,6 +14,7 @@ use symbol_equiv::SessionStart;
 use symbol_run::SymbolFault;
 use ternary::NoMemory;
 use truth_makers::Symbols;
+use unseen_text::UnseenText;
 
 /// What a quiet session is started of besides its maker: a circuit, and the variables of a script.
 ///
@@ -24,7 +24,7 @@ pub struct SymbolStart {
     alloc: Global,
     circuit: Circuit,
     variables: NameList,
-    text: ScriptText,
+    text: UnseenText,
 }
 
 impl Model for SymbolStart {
@@ -57,7 +57,7 @@ impl SymbolStart {
             alloc,
             circuit,
             variables,
-            text: ScriptText::of(text),
+            text: UnseenText::of(text),
         })
     }
 }

@@ -4,13 +4,8 @@ ghost use Rattle.std.specs.Prelude.{◌≡◌, ℕ, ◌+◌, ◌<◌, ◌≤◌,
 ghost use Rattle.script_lang.specs.declared.command.Command.TheVariants as family;
 ghost use Rattle.script_lang.specs.declared.command.Give.TheVariants as given;
 ghost use Rattle.script_lang.specs.declared.command.Setup.TheVariants as asked;
-ghost use Rattle.session_meaning.specs.Effects.{assigned};
-ghost use Rattle.session_meaning.specs.Truths.{letters_in_column};
-ghost use Rattle.switch_paths.specs.Graphs.{nodes};
+ghost use Rattle.symbol_session.specs.Words.{assigned, letters_in_column, nodes, GivesLetters, letter_given, columns_in, KeepsFunctions};
 ghost use Rattle.switch_paths.specs.declared.TheConstants.{RAILS};
-ghost use Rattle.symbol_stage.specs.Given.{GivesLetters, letter_given};
-ghost use Rattle.truth_makers.specs.Makers.{columns_in};
-ghost use Rattle.symbol_equiv.specs.Sharing.{KeepsFunctions};
 ghost use Rattle.symbol_session.specs.Asked.{IsOfGive, QuietlyAsked};
 ghost use Rattle.symbol_session.specs.Keeping as keeping;
 ghost use Rattle.symbol_session.specs.Keeping.{KeepsStates};

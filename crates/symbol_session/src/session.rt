@@ -4,7 +4,6 @@ ghost use Rattle.session_meaning.specs.Sessions.{IsHeldSession};
 ghost use Rattle.symbol_stage.specs.Stages.{ServesIn, columns_on, states_in};
 ghost use Rattle.symbol_session.specs.Sessions.{HasTrue, IsSymbolSession, maker_of};
 
-use crate::script::ScriptText;
 use cosmos_session::Session;
 use group_analysis::Analyst;
 use line_words::Line;
@@ -18,6 +17,7 @@ use symbol_run::{LineSession, SymbolFault};
 use symbol_stage::{Outside, SymbolStage};
 use symbol_told::SymbolLines;
 use truth_columns::Truths;
+use unseen_text::UnseenText;
 
 /// A session that obeys the lines of a symbolic script: the session over the stage of functions; the names that stand for functions,
 /// the script's variables first and then what was defined, and the functions that are kept beside them; the names under which
@@ -38,7 +38,7 @@ pub struct SymbolSession {
     // how many vertices the graph had when functions were let go the last time
     pub(crate) left: u32,
     pub(crate) quiet: bool,
-    pub(crate) text: ScriptText,
+    pub(crate) text: UnseenText,
 }
 
 impl Model for SymbolSession {

@@ -1,11 +1,8 @@
 //! Edits, and the commands that set what later ones go by.
 
 ghost use Rattle.std.specs.Prelude.{◌≡◌, IfErr};
-ghost use Rattle.script_lang.specs.Forms.{IsFormedSetup};
+ghost use Rattle.symbol_session.specs.Words.{IsFormedSetup, IsSharedSetup, columns_in, KeepsFunctions};
 ghost use Rattle.script_lang.specs.declared.command.Command.TheVariants as family;
-ghost use Rattle.column_script.specs.Commands.{IsSharedSetup};
-ghost use Rattle.truth_makers.specs.Makers.{columns_in};
-ghost use Rattle.symbol_equiv.specs.Sharing.{KeepsFunctions};
 ghost use Rattle.symbol_session.specs.Asked.{IsOfSetup, QuietlyAsked};
 ghost use Rattle.symbol_session.specs.Sessions.{Stays, data_of, maker_of};
 ghost use Rattle.symbol_session.specs.Turns.{want};

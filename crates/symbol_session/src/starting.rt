@@ -2,21 +2,13 @@
 
 ghost use Rattle.std.specs.Prelude.{◌≡◌, ◌≢◌, ℕ, ◌+◌, ◌<◌, false, max, [], ◌∷◌, ◌++◌, length, slice_get, All, Some, IfErr, IfOk, OnErr, OnOk};
 ghost use Rattle.line_words.specs.Files as file;
-ghost use Rattle.session_meaning.specs.Sessions.{start_of};
-ghost use Rattle.symbol_meaning.specs.Readings.{valuations_of};
-ghost use Rattle.symbol_meaning.specs.Scripts.{before_stop, read_of, stop_of, variables_of};
-ghost use Rattle.formula_functions.specs.Tables.{no_table};
-ghost use Rattle.truth_makers.specs.Makers.{IsFunctionOf};
-ghost use Rattle.truth_machine.specs.Symbols.{MakesMore};
-ghost use Rattle.symbol_lines.specs.Names.{has_name};
-ghost use Rattle.symbol_run.specs.Halts.{StopsAmong};
-ghost use Rattle.symbol_equiv.specs.Sharing.{KeepsFunctions, StandFor};
+ghost use Rattle.symbol_session.specs.Words.{start_of, valuations_of, before_stop, read_of, stop_of, variables_of, no_table, IsFunctionOf};
+ghost use Rattle.symbol_session.specs.Words.{MakesMore, has_name, StopsAmong, KeepsFunctions, StandFor};
 ghost use Rattle.symbol_session.specs.Sessions.{ServesLines, data_of, maker_of, valuations_by};
 ghost use Rattle.symbol_session.specs.Starting.{AreApart, AreVariables, IsAtStart, IsFirstKept, ServesAlike, StandForVariables};
 ghost use Rattle.symbol_session.specs.Turns.{IsOwnFault};
 
 use crate::SymbolSession;
-use crate::script::ScriptText;
 use crate::turns::{fault_at, want};
 use cosmos_session::Session;
 use decision_graph::{DecisionGraph, Function, GraphFault, MOST_VARIABLES};
@@ -31,6 +23,7 @@ use table_keys::TableKeys;
 use ternary::NoMemory;
 use truth_columns::Truths;
 use truth_makers::Symbols;
+use unseen_text::UnseenText;
 
 /// In how many places a graph remembers results.
 pub(crate) const NOTES: usize = 65_536;
@@ -82,7 +75,7 @@ impl SymbolSession {
             (before_stop (stop_of quiet (file.cut_line text.now) (file.lines_in text.now)) (file.lines_in text.now))) }
         ensures unwritten { IfErr result (λ fault. fault ≢ SymbolFault.Stopped Stop.Write) }
     {
-        let script = ScriptText::of(text);
+        let script = UnseenText::of(text);
         SymbolSession::begin(alloc, circuit, symbols, variables, script, quiet)
     }
 
@@ -92,7 +85,7 @@ impl SymbolSession {
         circuit: Circuit,
         symbols: Symbols,
         variables: &[Name],
-        text: ScriptText,
+        text: UnseenText,
         quiet: bool,
     ) -> Result<SymbolSession, SymbolFault>
         requires maker { symbols.graph.variables ≡ length variables.now }

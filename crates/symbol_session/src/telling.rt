@@ -1,19 +1,13 @@
 //! The commands that tell of what is there: `show` and `look`.
 
 ghost use Rattle.std.specs.Prelude.{◌≡◌, ℕ, List, IfErr};
-ghost use Rattle.group_text.specs.Texts.{GroupTextData};
+ghost use Rattle.symbol_session.specs.Words.{GroupTextData, told_by, refusal_of_tell, faults_applied, AreMerged, RefusedTelling};
+ghost use Rattle.symbol_session.specs.Words.{TellsInAll, tellings, faults_stopped, RefusedStopped, StopsAt, columns_in};
 ghost use Rattle.script_lang.specs.declared.command.Command.TheVariants as family;
-ghost use Rattle.session_meaning.specs.Effects.{told_by};
-ghost use Rattle.session_meaning.specs.Refusals.{refusal_of_tell};
-ghost use Rattle.session_meaning.specs.Sinks.{faults_applied};
-ghost use Rattle.symbol_meaning.specs.Merging.{AreMerged};
-ghost use Rattle.symbol_looking.specs.Tellings.{RefusedTelling, TellsInAll, tellings};
-ghost use Rattle.symbol_run.specs.Turns.{faults_stopped, RefusedStopped, StopsAt};
 ghost use Rattle.symbol_script.specs.declared.line.SymbolLine.TheVariants as asks;
 ghost use Rattle.symbol_session.specs.Asked.{IsOfTell};
 ghost use Rattle.symbol_session.specs.Sessions.{data_of, maker_of, valuations_by};
 ghost use Rattle.symbol_session.specs.Turns.{TakesAsked, told_of};
-ghost use Rattle.truth_makers.specs.Makers.{columns_in};
 
 use crate::SymbolSession;
 use crate::turns::turn_of;

@@ -1,16 +1,10 @@
 //! The commands that are given values: `set`, `charge` and `expect`.
 
 ghost use Rattle.std.specs.Prelude.{◌≡◌, List, All, IfErr};
-ghost use Rattle.group_text.specs.Texts.{GroupTextData};
-ghost use Rattle.symbol_run.specs.Turns.{faults_stopped, RefusedStopped, StopsAt};
+ghost use Rattle.symbol_session.specs.Words.{GroupTextData, faults_stopped, RefusedStopped, StopsAt, IsGiven, Valuations, AreMeantBy};
+ghost use Rattle.symbol_session.specs.Words.{ExpectsInAll, RefusedExpected, faults_expected, columns_in, KeepsFunctions};
 ghost use Rattle.symbol_script.specs.declared.line.SymbolLine.TheVariants as asks;
 ghost use Rattle.symbol_script.specs.declared.line.ValueVerb.TheVariants as is_verb;
-ghost use Rattle.symbol_giving.specs.StandIns.{IsGiven};
-ghost use Rattle.symbol_meaning.specs.Readings.{Valuations};
-ghost use Rattle.symbol_expecting.specs.Expecting.{AreMeantBy, ExpectsInAll};
-ghost use Rattle.symbol_expecting.specs.Faults.{RefusedExpected, faults_expected};
-ghost use Rattle.truth_makers.specs.Makers.{columns_in};
-ghost use Rattle.symbol_equiv.specs.Sharing.{KeepsFunctions};
 ghost use Rattle.symbol_session.specs.Asked.{AreSame, GivesAsked, IsKnown, asked_values};
 ghost use Rattle.symbol_session.specs.Missing.{Remembers};
 ghost use Rattle.symbol_session.specs.Sessions.{Stays, data_of, maker_of, truths_by, valuations_by};

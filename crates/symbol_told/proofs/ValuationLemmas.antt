@@ -1,9 +1,15 @@
 -- Valuations as they are told: all variables or those that are 1, each by its pair of a name and a truth value.
-use Rattle.std.proofs.Common.{◌≡◌, ℕ, Bool, true, false, not, ◌&&◌, ◌||◌, ◌==◌, List, [], ◌∷◌, ◌++◌, length, min, filter, nat_le, inl, inr, refl, sym, ap, ◌∙◌, append-nil, append_assoc, arith, if◌then◌else◌}
+use Rattle.std.proofs.Common.{◌≡◌, ℕ, zero, suc, ◌+◌, ◌<◌, Bool, true, false, not, ◌&&◌, ◌||◌, ◌==◌, List, [], ◌∷◌, ◌++◌, length, get_or, min, filter, nat_le, inl, inr, refl, sym, ap, ◌∙◌, append-nil, append_assoc, arith, if◌then◌else◌}
 use Rattle.std.specs.Prelude.{◌⊎◌, Result, Ok, Err, OnOk, codes, zip}
 use Rattle.std.specs.List.{flat_map, list_any}
 use Rattle.std.proofs.lemmas.Bool.Decides.{nat_tests}
+use Rattle.std.proofs.lemmas.List.{same_lists}
+use Rattle.std.proofs.lemmas.List.FromFn.{get_or-map-range_with_len, length-map-range_with_len}
 use Rattle.std.proofs.lemmas.Slice.Zip.{length-zip}
+use Rattle.decision_graph.specs.Meaning.{assigned}
+use Rattle.truth_makers.specs.Valuations.{column_of, valuation_of}
+use Rattle.truth_makers.proofs.SymbolLemmas.{valuation_of-column}
+use Rattle.symbol_meaning.specs.Readings.{truths_in}
 use Rattle.symbol_meaning.specs.Told.{most_told, ones_text, valuation_text, variable_text, where_text}
 use Rattle.symbol_told.specs.Valuations.{are_some, dash_unless, is_one, one_text}
 
@@ -74,3 +80,17 @@ pub some_done : (some all : Bool) (names : List (List ℕ)) (truths : List Bool)
     (names ≡ []) ⊎ (truths ≡ []) → some ≡ all
 some_done some all names truths are none =
     sym (or_none some) ∙ ap (λ (left : List (List ℕ × Bool)). some || list_any is_one left) (sym (no_pairs names truths none)) ∙ are
+
+-- the truth values in the column of a valuation are its own
+read_at : (vars : List Bool) (k : ℕ) (d : Bool) → k < length vars → get_or vars k false ≡ get_or vars k d
+read_at [] k d inside = absurd (omega (arith, inside))
+read_at (own ∷ vars) zero d inside = refl
+read_at (own ∷ vars) (suc k) d inside = read_at vars k d (omega (arith, inside))
+
+pub truths_of_column : (variables : ℕ) (vars : List Bool) → length vars ≡ variables → truths_in variables (column_of (assigned vars) variables) ≡ vars
+truths_of_column variables vars count =
+    let column = column_of (assigned vars) variables in
+    same_lists (truths_in variables column) vars (length-map-range_with_len (valuation_of variables column) 0 variables ∙ sym count) (λ k d inside.
+    let known : k < variables = omega (arith, inside, length-map-range_with_len (valuation_of variables column) 0 variables) in
+    get_or-map-range_with_len (valuation_of variables column) 0 variables k k d known (omega arith)
+    ∙ valuation_of-column variables (assigned vars) k known ∙ read_at vars k d (omega (arith, known, count)))

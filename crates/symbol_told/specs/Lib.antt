@@ -4,3 +4,4 @@ pub mod Printing
 pub mod Noting
 pub mod Differences
 pub mod Laws
+pub mod Words

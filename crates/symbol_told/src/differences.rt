@@ -2,10 +2,7 @@
 
 ghost use Rattle.std.specs.Prelude.{◌≡◌, [], ◌++◌, codes, decimal, map, OnErr, OnOk};
 ghost use Rattle.std.specs.Io.KnownBytes.{append_known};
-ghost use Rattle.ternary.specs.Tern.{letter};
-ghost use Rattle.ports.specs.Ports.{faults_after, RefusedOnce};
-ghost use Rattle.ports.specs.Sending.{WritesPart};
-ghost use Rattle.symbol_meaning.specs.Comparing.{difference_text};
+ghost use Rattle.symbol_told.specs.Words.{letter, faults_after, RefusedOnce, WritesPart, difference_text};
 ghost use Rattle.symbol_told.specs.Differences.{counted_text, difference_seen};
 
 use crate::putting::{put, put_number, put_states};

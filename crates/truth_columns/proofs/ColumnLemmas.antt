@@ -1,5 +1,5 @@
 -- A run in a column, whatever stands for truths.
-use Rattle.std.proofs.Common.{◌≡◌, ℕ, zero, suc, ◌+◌, ◌*◌, ◌<◌, ◌≤◌, Bool, true, false, List, [], ◌∷◌, ◌++◌, length, map, take, get_or, set, All, refl, sym, ap, ap₂, ◌∙◌, arith}
+use Rattle.std.proofs.Common.{◌≡◌, ℕ, suc, ◌+◌, ◌*◌, ◌<◌, ◌≤◌, Bool, true, false, List, [], ◌∷◌, ◌++◌, length, map, take, get_or, set, All, refl, sym, ap, ap₂, ◌∙◌, arith}
 use Rattle.std.proofs.lemmas.List.{get_or-map, get_or-take, map_more, map-set, take_more_set, take-map, length-map, length-take-le, take_all}
 use Rattle.std.proofs.lemmas.List.Elements.{All-set}
 use Rattle.ternary.specs.declared.tern.Tern.{Tern}
@@ -7,7 +7,7 @@ use Rattle.ternary.specs.declared.tern.Tern.TheVariants.{Zero}
 use Rattle.straight_code.specs.declared.flat.FlatStep.{FlatStep}
 use Rattle.straight_code.specs.Code.{CodeData, IsCode, results}
 use Rattle.straight_code.specs.Flat.{flat_values, step_value, step_of}
-use Rattle.straight_code.proofs.RunMappedLemmas.{no_step, IsWithin, reads_within, result_written}
+use Rattle.straight_code.proofs.RunMappedLemmas.{no_step, IsWithin, length-steps, result_written, step_reads}
 use Rattle.ternary.specs.Tern.{may_one, may_zero}
 use Rattle.switch_paths.specs.Switching.{state_at}
 use Rattle.straight_code.specs.declared.flat.FlatOutput.{FlatOutput}
@@ -15,7 +15,7 @@ use Rattle.straight_code.specs.declared.flat.FlatCode.{FlatCode}
 use Rattle.straight_code.specs.Code.{settled, output_state, code_value}
 use Rattle.straight_code.specs.Flat.{IsFlat, pair_value}
 use Rattle.straight_code.proofs.FlatLemmas.{constants_written, rails_written}
-use Rattle.straight_code.proofs.RunMappedLemmas.{no_output, IsPairWithin, pair_within, pair_state}
+use Rattle.straight_code.proofs.RunMappedLemmas.{no_output, pair_reads, pair_state}
 use Rattle.truth_columns.specs.Columns.{values_in, AreKept, HasColumn}
 
 -- what is kept twice is kept
@@ -45,24 +45,7 @@ values_in-kept n m P Q f g column (truth ∷ truths) kept all inside =
     (kept.stays truth column (all 0 truth (omega arith)) inside)
     (values_in-kept n m P Q f g column truths kept (λ k d less. all (suc k) d (omega arith)) inside)
 
--- there are states for any number of inputs
-some_input : (count : ℕ) → (input : List Tern) × (length input ≡ count)
-some_input zero = ([], refl)
-some_input (suc count) = let rest = some_input count in (Zero ∷ rest.0, ap suc rest.1)
-
 module _ (code : CodeData) (steps : List FlatStep) (flat : steps ≡ map (step_of code.inputs) code.instructions) (is_code : IsCode code) where
-  -- there is an instruction over the places for each
-  pub length-steps : length steps ≡ length code.instructions
-  length-steps = ap length flat ∙ length-map code.instructions (step_of code.inputs)
-
-  -- an instruction reads what stands before its result
-  pub step_reads : (k : ℕ) → k < length code.instructions → IsWithin (get_or steps k no_step) (2 + 2 * code.inputs + k)
-  step_reads k inside =
-      let some = some_input code.inputs in
-      let many = some.1 in
-      let within = reads_within some.0 code.instructions steps (rw many flat) (rw many is_code.reads) k inside no_step in
-      record { a = omega (arith, within.a, many); b = omega (arith, within.b, many) }
-
   -- once its result is written, the array has the results up to it in a column
   pub bits_written : (k : ℕ) → k < length code.instructions → (input : List Tern) (bits : List Bool) (bit : Bool) → length input ≡ code.inputs →
       2 + 2 * code.inputs + length code.instructions ≤ length bits →
@@ -79,7 +62,7 @@ module _ (code : CodeData) (steps : List FlatStep) (flat : steps ≡ map (step_o
       take (2 + 2 * code.inputs + count) bits ≡ flat_values input (results input (take count code.instructions)) →
       take (2 + 2 * code.inputs + length code.instructions) bits ≡ flat_values input (results input code.instructions)
   all_written count input bits last so_far =
-      let end : count ≡ length code.instructions = last ∙ length-steps in
+      let end : count ≡ length code.instructions = last ∙ length-steps code steps flat is_code in
       rw (end, take_all (length code.instructions) code.instructions (omega arith)) at so_far
 
 -- the values of the front of a list
@@ -164,31 +147,23 @@ rails_in_column f column input state values j first second room high low so_far 
 
 module _ (code : CodeData) (flat : FlatCode) (is_flat : IsFlat code.inputs code.instructions code.outputs flat) (is_code : IsCode code)
     (k : ℕ) (inside : k < length code.outputs) (pair : FlatOutput) (is_pair : pair ≡ get_or flat.outputs.items k pair) where
-  -- the rails of an output stand in the array
-  pub pair_reads : IsPairWithin pair (2 + 2 * code.inputs + length code.instructions)
-  pair_reads =
-      let some = some_input code.inputs in
-      let many = some.1 in
-      let within : IsPairWithin (get_or flat.outputs.items k pair) (2 + 2 * length some.0 + length code.instructions) =
-      pair_within some.0 code.instructions code.outputs flat.outputs.items (rw many is_flat.pairs) (rw many is_code.outputs) k inside pair no_output in
-      rw (many, ← is_pair) at within
-
-  -- and over the array in which the code ran they are those of its state
+  -- over the array in which the code ran the rails of an output are those of its state
   pub output_in_column : {A : Type 0} → (f : A → ℕ → Bool) (column : ℕ) (input : List Tern) (values : List A) (one none : A) → length input ≡ code.inputs →
       2 + 2 * code.inputs + length code.instructions ≤ length values → one ≡ get_or values pair.hi one → none ≡ get_or values pair.lo none →
       take (2 + 2 * code.inputs + length code.instructions) (values_in f column values) ≡ flat_values input (results input code.instructions) →
       settled (f one column) (f none column) ≡ state_at (code_value code input) k
   output_in_column f column input values one none many room is_one is_none whole =
       let end = 2 + 2 * code.inputs + length code.instructions in
+      let reads = pair_reads code flat is_flat is_code k inside pair is_pair in
       let state = pair_state input code.instructions code.outputs flat.outputs.items (rw many is_flat.pairs) (rw many is_code.outputs) k inside
       pair no_output (take end (values_in f column values)) whole in
       let own : pair_value (take end (values_in f column values)) pair ≡ output_state input (results input code.instructions) (get_or code.outputs k no_output) =
       ap (pair_value (take end (values_in f column values))) is_pair ∙ state in
       ap₂ settled
-      (ap (λ x. f x column) is_one ∙ sym (value_at f column values pair.hi one (omega (arith, pair_reads.hi, room)))
-      ∙ sym (get_or-take end (values_in f column values) pair.hi false pair_reads.hi))
-      (ap (λ x. f x column) is_none ∙ sym (value_at f column values pair.lo none (omega (arith, pair_reads.lo, room)))
-      ∙ sym (get_or-take end (values_in f column values) pair.lo false pair_reads.lo))
+      (ap (λ x. f x column) is_one ∙ sym (value_at f column values pair.hi one (omega (arith, reads.hi, room)))
+      ∙ sym (get_or-take end (values_in f column values) pair.hi false reads.hi))
+      (ap (λ x. f x column) is_none ∙ sym (value_at f column values pair.lo none (omega (arith, reads.lo, room)))
+      ∙ sym (get_or-take end (values_in f column values) pair.lo false reads.lo))
       ∙ own
       ∙ sym (get_or-map (output_state input (results input code.instructions)) code.outputs k no_output Zero inside)
 

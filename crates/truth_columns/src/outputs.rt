@@ -1,10 +1,7 @@
 //! The outputs of code that ran over truths.
 ghost use Rattle.std.specs.Prelude.{◌≡◌, ℕ, ◌+◌, ◌*◌, ◌<◌, ◌≤◌, List, [], length, map, take, All, IfErr, OnOk};
 ghost use Rattle.ternary.specs.declared.tern.Tern.{Tern};
-ghost use Rattle.ternary.specs.Tern.{may_one, may_zero};
-ghost use Rattle.switch_paths.specs.Switching.{state_at};
-ghost use Rattle.straight_code.specs.Code.{results, code_value};
-ghost use Rattle.straight_code.specs.Flat.{flat_values};
+ghost use Rattle.truth_columns.specs.Words.{may_one, may_zero, state_at, results, code_value, flat_values};
 ghost use Rattle.truth_columns.specs.Columns.{values_in, AreKept, HasColumn};
 
 use crate::{Truths, output};

@@ -1,10 +1,7 @@
 //! A run of straight-line code over truths.
 ghost use Rattle.std.specs.Prelude.{◌≡◌, ℕ, ◌+◌, ◌*◌, ◌<◌, ◌≤◌, List, [], length, map, take, All, IfErr, IfOk, OnOk};
 ghost use Rattle.ternary.specs.declared.tern.Tern.{Tern};
-ghost use Rattle.ternary.specs.Tern.{may_one, may_zero};
-ghost use Rattle.switch_paths.specs.Switching.{state_at};
-ghost use Rattle.straight_code.specs.Code.{results, code_value, settled};
-ghost use Rattle.straight_code.specs.Flat.{flat_values, step_value};
+ghost use Rattle.truth_columns.specs.Words.{may_one, may_zero, state_at, results, code_value, settled, flat_values, step_value};
 ghost use Rattle.truth_columns.specs.Columns.{values_in, AreKept, HasColumn};
 
 use crate::Truths;

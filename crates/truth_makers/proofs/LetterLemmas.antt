@@ -4,6 +4,7 @@ use Rattle.std.proofs.lemmas.Bool.{cases_lt}
 use Rattle.ternary.specs.declared.tern.Tern.{Tern}
 use Rattle.ternary.specs.declared.tern.Tern.TheVariants.{Zero, One, Unk}
 use Rattle.ternary.specs.Tern.{may_one, may_zero}
+use Rattle.ternary.proofs.TernLemmas.{same_or_other}
 use Rattle.decision_graph.specs.declared.vertex.Vertex.{Vertex}
 use Rattle.decision_graph.specs.Vertices.{IsReduced}
 use Rattle.decision_graph.proofs.AgreeLemmas.{holds-known}
@@ -11,23 +12,11 @@ use Rattle.truth_makers.specs.Valuations.{column_of, holds_in, valuation_of}
 use Rattle.truth_makers.specs.Expecting.{IsStateOfAll}
 use Rattle.truth_makers.proofs.SymbolLemmas.{column_of-lt, valuation_of-column}
 
--- two states are the same, or not
-pub same_state : (a b : Tern) → (a ≡ b) ⊎ (a ≢ b)
-same_state Zero Zero = inl refl
-same_state Zero One = inr (λ e. cc)
-same_state Zero Unk = inr (λ e. cc)
-same_state One Zero = inr (λ e. cc)
-same_state One One = inl refl
-same_state One Unk = inr (λ e. cc)
-same_state Unk Zero = inr (λ e. cc)
-same_state Unk One = inr (λ e. cc)
-same_state Unk Unk = inl refl
-
 -- the first of several columns have one state, or one of them another
 pub other_column : (states : ℕ → Tern) (own : Tern) (columns : ℕ) →
     ((column : ℕ) → column < columns → states column ≡ own) ⊎ ((column : ℕ) × (column < columns) × (states column ≢ own))
 other_column states own zero = inl (λ column inside. absurd (omega (arith, inside)))
-other_column states own (suc columns) = by (same_state (states columns) own) (other_column states own columns)
+other_column states own (suc columns) = by (same_or_other (states columns) own) (other_column states own columns)
   where
     by : ((states columns ≡ own) ⊎ (states columns ≢ own)) →
         (((column : ℕ) → column < columns → states column ≡ own) ⊎ ((column : ℕ) × (column < columns) × (states column ≢ own))) →

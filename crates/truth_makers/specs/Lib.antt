@@ -1,4 +1,3 @@
-pub mod Columns
 pub mod Valuations
 pub mod Makers
 pub mod Expecting

@@ -1,14 +1,12 @@
 //! The bits of words: up to 64 columns.
 ghost use Rattle.std.specs.Prelude.{◌≡◌, ◌↔◌, ℕ, ◌<◌, ◌≤◌, Bool, true, false, IfOk, IsTrue};
-ghost use Rattle.straight_code.specs.Flat.{kind_value};
-ghost use Rattle.word_columns.specs.Columns.{is_in_column};
-ghost use Rattle.word_columns.specs.Words.{is_not, is_or};
+ghost use Rattle.word_columns.specs.Columns.{is_in_column, AreUsed};
 ghost use Rattle.truth_columns.specs.Columns.{AreKept};
-ghost use Rattle.truth_makers.specs.Columns.{AreUsed};
 
 use std::marker::Model;
 use straight_code::StepKind;
 use truth_columns::Truths;
+use word_columns::{kind_word, used_columns};
 
 /// No fault: words don't run out.
 #[derive(Drop)]
@@ -25,7 +23,7 @@ pub struct WordTruths {
 
 impl Model for WordTruths {
     ghost use Rattle.std.specs.Prelude.{ℕ, ◌≤◌};
-    ghost use Rattle.truth_makers.specs.Columns.{AreUsed};
+    ghost use Rattle.word_columns.specs.Columns.{AreUsed};
 
     ghost Value = { ℕ };
 
@@ -43,7 +41,7 @@ impl WordTruths {
     {
         WordTruths {
             columns,
-            used: used_bits(columns),
+            used: used_columns(columns),
         }
     }
 
@@ -90,15 +88,6 @@ impl Truths for WordTruths {
     }
 }
 
-// The bits of the first columns, so many.
-fn used_bits(columns: u32) -> u64
-    requires some { 1 ≤ columns }
-    requires few { columns ≤ 64 }
-    ensures { AreUsed columns result }
-{
-    u64::MAX >> (64 - columns)
-}
-
 // All bits, or none.
 fn all_or_none(value: bool) -> u64
     ensures { (column : ℕ) → column < 64 → is_in_column column result ≡ value }
@@ -111,33 +100,4 @@ fn agree(used: u64, a: u64, b: u64) -> bool
     ensures { IsTrue result ↔ ((column : ℕ) → column < 64 → is_in_column column used ≡ true → is_in_column column a ≡ is_in_column column b) }
 {
     (a ^ b) & used == 0
-}
-
-// What an instruction of this kind gives of two words. It has no branch on the kind's result.
-fn kind_word(kind: StepKind, a: u64, b: u64) -> u64
-    ensures { (column : ℕ) → column < 64 → is_in_column column result ≡ kind_value kind (is_in_column column a) (is_in_column column b) }
-{
-    let turned = not_mask(kind);
-    let either = or_mask(kind);
-    ((a & (b | turned | either)) | (b & either)) ^ turned
-}
-
-// All columns if the kind is a Not, else none.
-fn not_mask(kind: StepKind) -> u64
-    ensures { (column : ℕ) → column < 64 → is_in_column column result ≡ is_not kind }
-{
-    match kind {
-        StepKind::Not => u64::MAX,
-        StepKind::And | StepKind::Or => 0,
-    }
-}
-
-// All columns if the kind is an Or, else none.
-fn or_mask(kind: StepKind) -> u64
-    ensures { (column : ℕ) → column < 64 → is_in_column column result ≡ is_or kind }
-{
-    match kind {
-        StepKind::Or => u64::MAX,
-        StepKind::Not | StepKind::And => 0,
-    }
 }

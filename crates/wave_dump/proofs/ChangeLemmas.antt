@@ -6,29 +6,30 @@ use Rattle.std.proofs.lemmas.List.{drop_all}
 use Rattle.ternary.specs.declared.tern.Tern.{Tern}
 use Rattle.ternary.specs.declared.tern.Tern.TheVariants.{Zero, One, Unk}
 use Rattle.wave_dump.specs.Dumps.{at_time, time_line}
-use Rattle.wave_dump.specs.Values.{same_state, same_value, value_line, change_lines}
+use Rattle.told_lines.specs.Sums.{is_state}
+use Rattle.wave_dump.specs.Values.{same_value, value_line, change_lines}
 
 -- two states are the same if the test says so, and only then
-same_state-is : (one two : Tern) → same_state one two ≡ true → one ≡ two
-same_state-is Zero Zero same = refl
-same_state-is One One same = refl
-same_state-is Unk Unk same = refl
-same_state-is Zero One same = absurd cc
-same_state-is Zero Unk same = absurd cc
-same_state-is One Zero same = absurd cc
-same_state-is One Unk same = absurd cc
-same_state-is Unk Zero same = absurd cc
-same_state-is Unk One same = absurd cc
+is_state-is : (one two : Tern) → is_state one two ≡ true → one ≡ two
+is_state-is Zero Zero same = refl
+is_state-is One One same = refl
+is_state-is Unk Unk same = refl
+is_state-is Zero One same = absurd cc
+is_state-is Zero Unk same = absurd cc
+is_state-is One Zero same = absurd cc
+is_state-is One Unk same = absurd cc
+is_state-is Unk Zero same = absurd cc
+is_state-is Unk One same = absurd cc
 
-same_state-self : (state : Tern) → same_state state state ≡ true
-same_state-self Zero = refl
-same_state-self One = refl
-same_state-self Unk = refl
+is_state-self : (state : Tern) → is_state state state ≡ true
+is_state-self Zero = refl
+is_state-self One = refl
+is_state-self Unk = refl
 
 -- and two values
 pub same_value-self : (value : List Tern) → same_value value value ≡ true
 same_value-self [] = refl
-same_value-self (state ∷ value) = rw (same_state-self state) (same_value-self value)
+same_value-self (state ∷ value) = rw (is_state-self state) (same_value-self value)
 
 same_both : (left right : Bool) → (left && right) ≡ true → (left ≡ true) × (right ≡ true)
 same_both true true both = (refl, refl)
@@ -40,8 +41,8 @@ same_value-is [] [] same = refl
 same_value-is [] (state ∷ two) same = absurd cc
 same_value-is (state ∷ one) [] same = absurd cc
 same_value-is (left ∷ one) (right ∷ two) same =
-    let both = same_both (same_state left right) (same_value one two) same in
-    rw (same_state-is left right both.0) (ap (λ value. right ∷ value) (same_value-is one two both.1))
+    let both = same_both (is_state left right) (same_value one two) same in
+    rw (is_state-is left right both.0) (ap (λ value. right ∷ value) (same_value-is one two both.1))
 
 -- two values are the same, or the test says that they aren't
 value_by : (one two : List Tern) (test : Bool) → same_value one two ≡ test → (one ≡ two) ⊎ ((one ≢ two) × (same_value one two ≡ false))

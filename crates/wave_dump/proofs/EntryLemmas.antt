@@ -1,26 +1,20 @@
 -- Values are taken place by place, and entries are listed node by node.
-use Rattle.std.proofs.Common.{◌≡◌, ◌≢◌, ℕ, zero, suc, ◌+◌, ◌<◌, ◌≤◌, Bool, true, false, inl, inr, ◌⊎◌, List, [], ◌∷◌, ◌++◌, length, map, refl, sym, ◌∙◌, ap, arith, subst, true≢false}
+use Rattle.std.proofs.Common.{◌≡◌, ◌≢◌, ℕ, zero, suc, ◌+◌, ◌<◌, ◌≤◌, Bool, true, false, inl, inr, List, [], ◌∷◌, ◌++◌, length, map, refl, sym, ◌∙◌, ap, arith, subst, true≢false}
 use Rattle.std.specs.Prelude.{◌||◌, Contains, slice_index_or, slice_set}
 use Rattle.std.specs.Bool.{OnTrue, OnFalse}
 use Rattle.std.proofs.lemmas.Bool.{cases_eq}
 use Rattle.std.proofs.lemmas.List.{ext_get_or, get_or-set_same, get_or-set_other, length-set, length-map, set-get_or, get_or_default, get_or_past}
 use Rattle.std.proofs.lemmas.List.Elements.{Contains-append_left, Contains-append_right}
+use Rattle.std.proofs.Math.Bool.{or-true, or-false}
 use Rattle.settling.specs.Moved.{ListsChanges}
 use Rattle.settling.proofs.NumbersLemmas.{shift}
 use Rattle.switch_paths.specs.Switching.{state_at}
 use Rattle.ternary.specs.declared.tern.Tern.{Tern}
-use Rattle.ternary.specs.declared.tern.Tern.TheVariants.{Zero, One, Unk}
+use Rattle.ternary.specs.declared.tern.Tern.TheVariants.{Zero}
+use Rattle.ternary.proofs.TernLemmas.{same_or_other}
 use Rattle.wave_dump.specs.Entries.{ShownEntry, entries_of, shown_of, no_entry, listed_at, AreListed, ListsEntry, MarksNode, MarksAll, AreMarked}
 use Rattle.wave_dump.specs.Scenes.{EntryData}
 use Rattle.wave_dump.specs.Values.{value_in}
-
-or_true : (mark : Bool) → (mark || true) ≡ true
-or_true true = refl
-or_true false = refl
-
-or_false : (mark : Bool) → (mark || false) ≡ mark
-or_false true = refl
-or_false false = refl
 
 -- the value of nodes has the state of each
 pub value_at : (states : List Tern) (nodes : List ℕ) (k : ℕ) → k < length nodes → state_at (map (state_at states) nodes) k ≡ state_at states (slice_index_or nodes k 0)
@@ -91,8 +85,8 @@ module _ (nodes : List ℕ) (states old now : List Tern) (at : ℕ) (changed : B
 
   pub taken-more : (mark : Bool) → OnTrue mark (state ≢ state_at now at) → OnFalse mark (state ≡ state_at now at) →
       TakenFirst nodes states old next (at + 1) (changed || mark)
-  taken-more true other kept = subst (TakenFirst nodes states old next (at + 1)) (sym (or_true changed)) (taken-other other)
-  taken-more false other kept = subst (TakenFirst nodes states old next (at + 1)) (sym (or_false changed)) (taken-same kept)
+  taken-more true other kept = subst (TakenFirst nodes states old next (at + 1)) (sym (or-true changed)) (taken-other other)
+  taken-more false other kept = subst (TakenFirst nodes states old next (at + 1)) (sym (or-false changed)) (taken-same kept)
 
 -- at the end all have
 pub taken-all : (nodes : List ℕ) (states old now : List Tern) (changed : Bool) → length old ≡ length nodes →
@@ -207,23 +201,11 @@ pub below-all : (entries : List EntryData) (count at : ℕ) (lists : List (List 
     AreListed entries lists
 below-all entries count at lists end below = λ number node inside has. below.each number node (omega (arith, inside, end)) has
 
--- two states are the same or not
-same_tern : (a b : Tern) → (a ≡ b) ⊎ (a ≢ b)
-same_tern Zero Zero = inl refl
-same_tern Zero One = inr (λ same. absurd cc)
-same_tern Zero Unk = inr (λ same. absurd cc)
-same_tern One Zero = inr (λ same. absurd cc)
-same_tern One One = inl refl
-same_tern One Unk = inr (λ same. absurd cc)
-same_tern Unk Zero = inr (λ same. absurd cc)
-same_tern Unk One = inr (λ same. absurd cc)
-same_tern Unk Unk = inl refl
-
 -- a value that is another one has a node at which the states differ
 differs_at : (old new : List Tern) (nodes : List ℕ) → map (state_at new) nodes ≢ map (state_at old) nodes →
     (node : ℕ) × Contains nodes node × (state_at new node ≢ state_at old node)
 differs_at old new [] other = absurd (other refl)
-differs_at old new (node ∷ nodes) other = elim (same_tern (state_at new node) (state_at old node)) [
+differs_at old new (node ∷ nodes) other = elim (same_or_other (state_at new node) (state_at old node)) [
   | inr differs ↦ (node, (0, omega arith, refl), differs)
   | inl same ↦
       let (found, there, differs) = differs_at old new nodes (λ all. other (rw same (ap (λ value. state_at old node ∷ value) all))) in

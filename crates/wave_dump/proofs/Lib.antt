@@ -4,7 +4,6 @@ pub mod CommentLemmas
 pub mod TellingLemmas
 pub mod ChangeLemmas
 pub mod MarkedLemmas
-pub mod DueWalks
 pub mod PenLemmas
 pub mod MarkingLemmas
 pub mod EntryLemmas

@@ -1,5 +1,5 @@
 -- What a pen's sink has, of all that was put.
-use Rattle.std.proofs.Common.{◌≡◌, ℕ, List, [], ◌++◌, Bool, true, false, Option, None, Some, Result, Ok, Err, OnOk, OnErr, inl, inr, sym, ◌∙◌, ap, append_assoc, append-nil}
+use Rattle.std.proofs.Common.{◌≡◌, ℕ, List, [], ◌++◌, true, false, Option, None, Some, Result, Ok, Err, OnOk, OnErr, inl, inr, sym, ◌∙◌, ap, append_assoc, append-nil}
 use Rattle.std.specs.Prelude.{is_some}
 use Rattle.std.specs.Io.KnownBytes.{append_known}
 use Rattle.ports.specs.declared.ports.PortFault.{PortFault}
@@ -9,6 +9,10 @@ use Rattle.ports.specs.Sending.{Sends, WritesPart}
 use Rattle.ports.proofs.SendingLemmas.{append_known-append, sends_part, part_longer}
 use Rattle.ternary.specs.Counts.{raised}
 use Rattle.wave_dump.specs.Pens.{SinkSeen, IsSent, Stands}
+
+-- what is seen of a sink
+abbrev pub seen_by : {X : Type 0} → (X → Option (List ℕ)) → (X → ℕ) → (X → ℕ) → X → SinkSeen
+seen_by written faults refusals sink = record { written = written sink; faults = faults sink; refusals = refusals sink }
 
 -- one fault more is memory that was lacking at most once
 refused_once : (before now next : ℕ) (fault : PortFault) → now ≡ before → next ≡ refusals_at now fault → RefusedOnce {T = Unit {0}} before next (Err fault)

@@ -4,6 +4,7 @@ use Rattle.std.specs.Prelude.{ℕ, ◌+◌, Bool, true, false, ◌&&◌, List, [
 use Rattle.ternary.specs.declared.tern.Tern.{Tern}
 use Rattle.ternary.specs.declared.tern.Tern.TheVariants.{Zero, One, Unk}
 use Rattle.switch_paths.specs.Switching.{state_at}
+use Rattle.told_lines.specs.Sums.{is_state}
 use Rattle.wave_dump.specs.Codes.{code_of}
 use Rattle.wave_dump.specs.Scenes.{EntryData}
 
@@ -35,17 +36,10 @@ abbrev pub value_lines : ℕ → List (List Tern) → List ℕ
 value_lines number [] = []
 value_lines number (value ∷ values) = value_line number value ++ value_lines (number + 1) values
 
--- two states are the same
-abbrev pub same_state : Tern → Tern → Bool
-same_state Zero Zero = true
-same_state One One = true
-same_state Unk Unk = true
-same_state one two = false
-
 -- two values are the same, letter by letter
 abbrev pub same_value : List Tern → List Tern → Bool
 same_value [] [] = true
-same_value (one ∷ ones) (two ∷ twos) = same_state one two && same_value ones twos
+same_value (one ∷ ones) (two ∷ twos) = is_state one two && same_value ones twos
 same_value ones twos = false
 
 -- the lines of the values that differ from those before, from the entry with this number on

@@ -386,12 +386,6 @@ impl<S: Sink + Drop> Observer for Dump<S> {
 
     ghost part = { λ _ _ _ _. ⊥ };
 
-    // Each state has its own time.
-    #[inline]
-    fn is_once_enough(&self) -> bool {
-        false
-    }
-
     fn see<M: Moved>(&mut self, moved: &M) -> Result<(), Never> {
         if self.is_open {
             self.pass(moved);

@@ -16,7 +16,6 @@
 #![tactic(auto)]
 
 mod changes;
-mod due;
 mod dump;
 mod entries;
 mod header;

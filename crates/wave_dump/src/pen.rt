@@ -2,11 +2,11 @@
 ghost use Rattle.std.specs.Prelude.{◌≡◌, [], ◌++◌};
 ghost use Rattle.wave_dump.specs.Pens.{IsSent};
 
-use crate::due::DueText;
 use ports::{NotedFile, PortFault, Sink, send};
 use std::alloc::Global;
 use std::marker::Model;
 use std::snapshot::Snapshot;
+use unseen_text::UnseenText;
 
 /// A sink, and the line that is sent to it next.
 ///
@@ -17,7 +17,7 @@ pub(crate) struct Pen<S: Sink + Drop> {
     sink: S,
     // the sink as it was given, and all that was put since, for contracts alone
     given: Snapshot<S>,
-    due: DueText,
+    due: UnseenText,
     // what was put and isn't sent yet
     line: Vec<u8>,
     fault: Option<PortFault>,
@@ -48,7 +48,7 @@ impl<S: Sink + Drop> Pen<S> {
         Pen {
             sink,
             given,
-            due: DueText::new(),
+            due: UnseenText::new(),
             line: Vec::new(alloc),
             fault: None,
         }

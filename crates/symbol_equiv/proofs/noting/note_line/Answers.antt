@@ -1,39 +1,45 @@
 -- What the line shows was noted, and what it watches.
-use Rattle.std.proofs.Common.{◌≡◌, ◌∙◌, ℕ, true, List, ◌++◌, Ok, OnOk, ap, sym, subst}
+use Rattle.std.proofs.Common.{◌≡◌, ◌∙◌, ℕ, Bool, true, List, ◌++◌, Ok, OnOk, ap, sym, subst}
 use Rattle.std.proofs.lemmas.Result.{err_from_is_err_and}
 use Rattle.script_meaning.specs.declared.turn.Turn.{Turn}
 use Rattle.script_meaning.specs.declared.turn.Turn.TheVariants.{Accepted, Refused, TooLarge}
+use Rattle.truth_parts.proofs.KeptLemmas.{passed_on}
 use Rattle.symbol_meaning.specs.Comparing.{Watched}
 use Rattle.symbol_told.specs.Noting.{NotesData, note}
 use Rattle.symbol_equiv.specs.Sharing.{KeepsFunctions}
 use Rattle.symbol_equiv.specs.Waves.{TakesTurnRailed}
 use Rattle.symbol_equiv.specs.Words.{counted_words, names_watched}
-use Rattle.symbol_equiv.proofs.FaultLemmas.{memory_stops, memory_unwritten, on_any, railed_by, words_turn}
+use Rattle.symbol_equiv.proofs.FaultLemmas.{memory_stops, memory_unwritten, on_any, words_turn}
 use Rattle.symbol_equiv.proofs.LineLemmas.{noted_line}
+use Rattle.symbol_equiv.proofs.noting.note_line.Given.{Over}
+use Rattle.symbol_equiv.proofs.noting.note_line.Goals.{After-obey_noted}
 use Rattle.symbol_equiv.proofs.noting.note_line.Goals as goal
+
+-- the line's turn, by whether the script is quiet
+abbrev Takes : (g : Over) → After-obey_noted g → Bool → Turn → Type 0
+Takes g c quiet taken =
+    TakesTurnRailed (g.M.SharesMaker.maker c.obey_noted.new.self) note quiet (g.M.LineSession.valuations c.args.session.now) c.args.cut (g.M.LineSession.sessions c.args.session.now) (c.args.line.number, c.args.line.bytes.now)
+    (g.M.LineSession.sessions c.obey_noted.new.self) c.args.notes.now c.obey_noted.new.out (g.A.Analyst.analysed c.args.analyst.now) (g.A.Analyst.analysed c.obey_noted.new.analyst) (Ok taken)
+
+-- it is quiet
+railed : (g : Over) (c : After-obey_noted g) (taken own : Turn) → taken ≡ own → Takes g c (g.M.LineSession.quiet c.args.session.now) taken → Takes g c true own
+railed g c taken own same is = subst (Takes g c true) same (subst (λ (quiet : Bool). Takes g c quiet taken) c.requires.quiet is)
 
 pub returns-in-Accepted-clause-turn : goal.returns-in-Accepted-clause-turn
 returns-in-Accepted-clause-turn g c = λ rest serves.
-    let line : ℕ × List ℕ = (c.args.line.number, c.args.line.bytes.now) in
-    let old = c.args.session.now in
-    let new = c.obey_noted.new.self in
     let heard = c.obey_noted.new.out in
+    let line : ℕ × List ℕ = (c.args.line.number, c.args.line.bytes.now) in
     let asked = g.A.Analyst.analysed c.args.analyst.now in
     let known = g.A.Analyst.analysed c.obey_noted.new.analyst in
-    let v = g.M.LineSession.valuations old in
     let more : List Watched = counted_words c.circuit.result.now c.vectors.result.now (names_watched true line) in
     let full : NotesData = record heard { words = heard.words ++ more } in
-    let comes = λ (taken : Turn). TakesTurnRailed (g.M.SharesMaker.maker new) note (g.M.LineSession.quiet old) v c.args.cut (g.M.LineSession.sessions old) line
-    (g.M.LineSession.sessions new) c.args.notes.now heard asked known (Ok taken) in
-    let turn = railed_by (g.M.SharesMaker.maker new) note (g.M.LineSession.quiet old) v c.args.cut (g.M.LineSession.sessions old) line
-    (g.M.LineSession.sessions new) c.args.notes.now heard asked known (Ok Accepted) c.requires.quiet
-    (subst comes c.in-Accepted.is (c.in_ok-obey_noted.ensures.turn rest serves)) in
+    let turn = railed g (goal.at.returns-in-Accepted-clause-turn g c).After-obey_noted _ Accepted c.in-Accepted.is (c.in_ok-obey_noted.ensures.turn rest serves) in
     let grew = subst (λ (own : List Watched). OnOk c.note_words.result (c.note_words.new.notes ≡ record heard { words = heard.words ++ own }))
     (c.deref.ensures.value ∙ c.in-Ok.ensures) c.note_words.ensures.ok in
-    words_turn (g.M.SharesMaker.maker old) (g.M.SharesMaker.maker new) v c.args.cut (g.M.LineSession.sessions old) line (g.M.LineSession.sessions new)
+    words_turn (g.M.SharesMaker.maker c.args.session.now) (g.M.SharesMaker.maker c.obey_noted.new.self) (g.M.LineSession.valuations c.args.session.now) c.args.cut (g.M.LineSession.sessions c.args.session.now) line (g.M.LineSession.sessions c.obey_noted.new.self)
     c.args.notes.now c.note_words.new.notes full asked known c.note_words.result grew c.note_words.ensures.accepted
-    (noted_line v c.args.cut (g.M.LineSession.sessions old) line (g.M.SharesMaker.maker old) (sym c.requires.valued.columns) c.args.notes.now asked known
-    (g.M.SharesMaker.maker new) (g.M.LineSession.sessions new) heard c.circuit.result.now c.vectors.result.now c.in_ok-obey_noted.ensures.keeps
+    (noted_line (g.M.LineSession.valuations c.args.session.now) c.args.cut (g.M.LineSession.sessions c.args.session.now) line (g.M.SharesMaker.maker c.args.session.now) (sym c.requires.valued.columns) c.args.notes.now asked known
+    (g.M.SharesMaker.maker c.obey_noted.new.self) (g.M.LineSession.sessions c.obey_noted.new.self) heard c.circuit.result.now c.vectors.result.now c.in_ok-obey_noted.ensures.keeps
     c.requires.noted c.circuit.ensures c.vectors.ensures turn)
 
 pub returns-in-Accepted-clause-serves : goal.returns-in-Accepted-clause-serves
@@ -53,38 +59,14 @@ returns-in-Accepted-clause-unwritten g c = memory_unwritten c.note_words.result 
 
 pub returns-in-Refused-clause-turn : goal.returns-in-Refused-clause-turn
 returns-in-Refused-clause-turn g c = λ rest serves.
-    let line : ℕ × List ℕ = (c.args.line.number, c.args.line.bytes.now) in
-    let old = c.args.session.now in
-    let new = c.obey_noted.new.self in
-    let heard = c.obey_noted.new.out in
-    let asked = g.A.Analyst.analysed c.args.analyst.now in
-    let known = g.A.Analyst.analysed c.obey_noted.new.analyst in
-    let v = g.M.LineSession.valuations old in
-    let comes = λ (taken : Turn). TakesTurnRailed (g.M.SharesMaker.maker new) note (g.M.LineSession.quiet old) v c.args.cut (g.M.LineSession.sessions old) line
-    (g.M.LineSession.sessions new) c.args.notes.now heard asked known (Ok taken) in
-    railed_by (g.M.SharesMaker.maker new) note (g.M.LineSession.quiet old) v c.args.cut (g.M.LineSession.sessions old) line
-    (g.M.LineSession.sessions new) c.args.notes.now heard asked known (Ok (Refused c.in-Refused.code)) c.requires.quiet
-    (subst comes c.in-Refused.is (c.in_ok-obey_noted.ensures.turn rest serves))
+    railed g (goal.at.returns-in-Refused-clause-turn g c).After-obey_noted _ (Refused c.in-Refused.code) c.in-Refused.is (c.in_ok-obey_noted.ensures.turn rest serves)
 
 pub returns-clause-turn : goal.returns-clause-turn
 returns-clause-turn g c = λ rest serves.
-    let line : ℕ × List ℕ = (c.args.line.number, c.args.line.bytes.now) in
-    let old = c.args.session.now in
-    let new = c.obey_noted.new.self in
-    let heard = c.obey_noted.new.out in
-    let asked = g.A.Analyst.analysed c.args.analyst.now in
-    let known = g.A.Analyst.analysed c.obey_noted.new.analyst in
-    let v = g.M.LineSession.valuations old in
-    let comes = λ (taken : Turn). TakesTurnRailed (g.M.SharesMaker.maker new) note (g.M.LineSession.quiet old) v c.args.cut (g.M.LineSession.sessions old) line
-    (g.M.LineSession.sessions new) c.args.notes.now heard asked known (Ok taken) in
-    railed_by (g.M.SharesMaker.maker new) note (g.M.LineSession.quiet old) v c.args.cut (g.M.LineSession.sessions old) line
-    (g.M.LineSession.sessions new) c.args.notes.now heard asked known (Ok (TooLarge c.in-TooLarge.fault)) c.requires.quiet
-    (subst comes c.in-TooLarge.is (c.in_ok-obey_noted.ensures.turn rest serves))
+    railed g (goal.at.returns-clause-turn g c).After-obey_noted _ (TooLarge c.in-TooLarge.fault) c.in-TooLarge.is (c.in_ok-obey_noted.ensures.turn rest serves)
 
 pub returns-in_err-obey_noted-clause-turn : goal.returns-in_err-obey_noted-clause-turn
-returns-in_err-obey_noted-clause-turn g c = λ rest serves.
-    let stopped = err_from_is_err_and c.from_residual.result c.from_residual.ensures.1 in rw stopped.1 tt
+returns-in_err-obey_noted-clause-turn g c = λ rest serves. rw (err_from_is_err_and c.from_residual.result c.from_residual.ensures.1).1 tt
 
 pub returns-in_err-obey_noted-clause-number : goal.returns-in_err-obey_noted-clause-number
-returns-in_err-obey_noted-clause-number g c =
-    let stopped = err_from_is_err_and c.from_residual.result c.from_residual.ensures.1 in rw (stopped.1, stopped.2) c.in_err-obey_noted.ensures.number
+returns-in_err-obey_noted-clause-number g c = passed_on _ c.from_residual.result _ c.from_residual.ensures.1 c.in_err-obey_noted.ensures.number

@@ -8,9 +8,11 @@ use Rattle.symbol_comparing.specs.Told.{AreValuationsOf}
 use Rattle.symbol_run.specs.Answers.{cause_text}
 use Rattle.symbol_run.specs.Halts.{StopsAmong}
 use Rattle.symbol_equiv.specs.declared.runs.Ran.{Ran}
-use Rattle.symbol_equiv.proofs.AnswerLemmas.{ends_by, noted_by, notes_carried, refusal_begun, refusal_written, refused_by}
+use Rattle.symbol_equiv.proofs.AnswerLemmas.{RefusedTo, ends_by, noted_by, notes_carried, refusal_begun, refusal_written, refused_by}
 use Rattle.symbol_equiv.proofs.FaultLemmas.{leave_counts, leave_refused, leave_stopped, run_counts, run_refused, run_stopped}
 use Rattle.symbol_equiv.proofs.KeptLemmas.{notes_kept, still_then, valued_later}
+use Rattle.symbol_equiv.proofs.runs.run_noted.Given.{Over}
+use Rattle.symbol_equiv.proofs.runs.run_noted.Goals.{After-refuse_run}
 use Rattle.symbol_equiv.proofs.runs.run_noted.Goals as goal
 
 pub returns-in_err-session-clause-told : goal.returns-in_err-session-clause-told
@@ -146,44 +148,30 @@ refuse_run-requires g c =
     (λ column inside. c.circuit-circuit.ensures column
     (subst (λ (own : Valuations). column < own.columns) (sym c.in_ok-halt.ensures.valuations) inside)) c.in_ok-halt.ensures.told.halts
 
+-- the refusal whose line was written
+refusal : (g : Over) (c : After-refuse_run g) → RefusedTo (file.cut_line c.args.text.now) (g.T.SessionStart.starts c.args.start) (file.lines_in c.args.text.now)
+    (g.A.Analyst.analysed c.args.analyst.now) (g.A.Analyst.analysed c.note_lines.new.analyst) (cause_text c.circuit-circuit.result.now c.in_ok-halt.halt c.args.stop)
+refusal g c =
+    let one = c.in_ok-session.session in
+    refused_by (file.cut_line c.args.text.now) (g.T.SessionStart.starts c.args.start) (file.lines_in c.args.text.now) (g.M.LineSession.sessions one)
+    (g.M.LineSession.sessions c.note_lines.new.session) c.args.stop c.requires.stop (g.A.Analyst.analysed c.args.analyst.now)
+    (g.A.Analyst.analysed c.note_lines.new.analyst) c.in_ok-halt.halt (g.M.LineSession.valuations one)
+    (c.in_ok-session.ensures.valuations ∙ c.requires.valuations) c.circuit-circuit.result.now (sym c.is_whole.ensures ∙ c.if-is_whole.false)
+    (λ column inside. c.in_ok-session.ensures.sessions column
+    (subst (λ (own : Valuations). column < own.columns) c.in_ok-session.ensures.valuations inside))
+    (λ column inside. c.circuit-circuit.ensures column
+    (subst (λ (own : Valuations). column < own.columns) (sym c.in_ok-halt.ensures.valuations) inside)) c.in_ok-halt.ensures.told.halts
+
 pub returns-in_err-end-clause-told : goal.returns-in_err-end-clause-told
 returns-in_err-end-clause-told g c =
-    let one = c.in_ok-session.session in
-    let circuit = c.circuit-circuit.result.now in
-    let cut = file.cut_line c.args.text.now in
-    let lines = file.lines_in c.args.text.now in
-    let start = g.T.SessionStart.starts c.args.start in
-    let asked = g.A.Analyst.analysed c.args.analyst.now in
-    let known = g.A.Analyst.analysed c.note_lines.new.analyst in
-    let is = refused_by cut start lines (g.M.LineSession.sessions one) (g.M.LineSession.sessions c.note_lines.new.session) c.args.stop c.requires.stop asked known
-    c.in_ok-halt.halt (g.M.LineSession.valuations one) (c.in_ok-session.ensures.valuations ∙ c.requires.valuations) circuit
-    (sym c.is_whole.ensures ∙ c.if-is_whole.false)
-    (λ column inside. c.in_ok-session.ensures.sessions column
-    (subst (λ (own : Valuations). column < own.columns) c.in_ok-session.ensures.valuations inside))
-    (λ column inside. c.circuit-circuit.ensures column
-    (subst (λ (own : Valuations). column < own.columns) (sym c.in_ok-halt.ensures.valuations) inside)) c.in_ok-halt.ensures.told.halts in
     let stopped = err_from_is_err_and c.from_residual-in_err-end.result c.from_residual-in_err-end.ensures.1 in
     rw (stopped.1, stopped.2)
-    (inr (refusal_begun c.args.net.now cut start lines (g.S.Sink.written c.args.out.now) (g.S.Sink.written c.refuse_run.new.out) asked known
-    (cause_text circuit c.in_ok-halt.halt c.args.stop) is c.in_err-end.ensures.part))
+    (inr (refusal_begun c.args.net.now _ _ _ (g.S.Sink.written c.args.out.now) (g.S.Sink.written c.refuse_run.new.out) _ _ _
+    (refusal g (goal.at.returns-in_err-end-clause-told g c).After-refuse_run) c.in_err-end.ensures.part))
 
 pub returns-clause-told : goal.returns-clause-told
-returns-clause-told g c =
-    let one = c.in_ok-session.session in
-    let circuit = c.circuit-circuit.result.now in
-    let cut = file.cut_line c.args.text.now in
-    let lines = file.lines_in c.args.text.now in
-    let start = g.T.SessionStart.starts c.args.start in
-    let asked = g.A.Analyst.analysed c.args.analyst.now in
-    let known = g.A.Analyst.analysed c.note_lines.new.analyst in
-    let is = refused_by cut start lines (g.M.LineSession.sessions one) (g.M.LineSession.sessions c.note_lines.new.session) c.args.stop c.requires.stop asked known
-    c.in_ok-halt.halt (g.M.LineSession.valuations one) (c.in_ok-session.ensures.valuations ∙ c.requires.valuations) circuit
-    (sym c.is_whole.ensures ∙ c.if-is_whole.false)
-    (λ column inside. c.in_ok-session.ensures.sessions column
-    (subst (λ (own : Valuations). column < own.columns) c.in_ok-session.ensures.valuations inside))
-    (λ column inside. c.circuit-circuit.ensures column
-    (subst (λ (own : Valuations). column < own.columns) (sym c.in_ok-halt.ensures.valuations) inside)) c.in_ok-halt.ensures.told.halts in (
-      refusal_written c.args.net.now cut start lines (g.S.Sink.written c.args.out.now) (g.S.Sink.written c.refuse_run.new.out) asked known
-          (cause_text circuit c.in_ok-halt.halt c.args.stop) is c.in_ok-end.ensures.ok,
-      c.in_ok-end.ensures.ends,
-    )
+returns-clause-told g c = (
+  refusal_written c.args.net.now _ _ _ (g.S.Sink.written c.args.out.now) (g.S.Sink.written c.refuse_run.new.out) _ _ _
+      (refusal g (goal.at.returns-clause-told g c).After-refuse_run) c.in_ok-end.ensures.ok,
+  c.in_ok-end.ensures.ends,
+)

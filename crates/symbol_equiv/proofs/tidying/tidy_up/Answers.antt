@@ -4,26 +4,8 @@ use Rattle.decision_graph.specs.declared.vertex.Function.{Function}
 use Rattle.truth_makers.specs.Makers.{IsFunctionOf}
 use Rattle.symbol_equiv.specs.Notes.{rails_left, with_rails, StillShow}
 use Rattle.symbol_equiv.specs.Sharing.{StandFor}
-use Rattle.symbol_equiv.proofs.KeptLemmas.{both_inside, both_long, both_stand, still_same}
+use Rattle.symbol_equiv.proofs.KeptLemmas.{both_inside, both_long, both_stand}
 use Rattle.symbol_equiv.proofs.tidying.tidy_up.Goals as goal
-
-pub returns-in_err-all-clause-kept : goal.returns-in_err-all-clause-kept
-returns-in_err-all-clause-kept g c = still_same (g.M.SharesMaker.maker c.args.session.now) c.args.kept.now c.requires.kept
-
-pub returns-in_err-all-clause-noted : goal.returns-in_err-all-clause-noted
-returns-in_err-all-clause-noted g c = still_same (g.M.SharesMaker.maker c.args.session.now) c.args.notes.now c.requires.noted
-
-pub returns-in_err-first-clause-kept : goal.returns-in_err-first-clause-kept
-returns-in_err-first-clause-kept g c = still_same (g.M.SharesMaker.maker c.args.session.now) c.args.kept.now c.requires.kept
-
-pub returns-in_err-first-clause-noted : goal.returns-in_err-first-clause-noted
-returns-in_err-first-clause-noted g c = still_same (g.M.SharesMaker.maker c.args.session.now) c.args.notes.now c.requires.noted
-
-pub returns-in_err-second-clause-kept : goal.returns-in_err-second-clause-kept
-returns-in_err-second-clause-kept g c = still_same (g.M.SharesMaker.maker c.args.session.now) c.args.kept.now c.requires.kept
-
-pub returns-in_err-second-clause-noted : goal.returns-in_err-second-clause-noted
-returns-in_err-second-clause-noted g c = still_same (g.M.SharesMaker.maker c.args.session.now) c.args.notes.now c.requires.noted
 
 pub tidy-requires : goal.tidy-requires
 tidy-requires g c = record {

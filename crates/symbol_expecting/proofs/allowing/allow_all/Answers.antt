@@ -1,7 +1,7 @@
 -- The first refusal is that of an item before which there is none.
 use Rattle.std.proofs.Common.{◌≡◌, ◌∙◌, ℕ, List, None, sym, ap, arith}
 use Rattle.std.proofs.lemmas.List.{drop_all}
-use Rattle.std.proofs.lemmas.Result.{err_from_is_err_and}
+use Rattle.truth_parts.proofs.KeptLemmas.{passed_on}
 use Rattle.script_lang.specs.declared.value.Value.{Value}
 use Rattle.node_values.specs.Givings.{letters_given}
 use Rattle.session_meaning.specs.Refusals.{first_refusal, given_refusal, none_at}
@@ -11,10 +11,9 @@ use Rattle.symbol_expecting.proofs.allowing.allow_all.Goals as goal
 
 pub returns-in_err-allow_value-clause-refused : goal.returns-in_err-allow_value-clause-refused
 returns-in_err-allow_value-clause-refused c =
-    let stopped = err_from_is_err_and c.from_residual.result c.from_residual.ensures.1 in
     let item = c.loop-name-item.result in
     let refusal = λ (one : List ℕ × Value). given_refusal none_at (letters_given c.args.circuit.now c.args.vectors.now one) in
-    rw (stopped.1, stopped.2)
+    passed_on _ c.from_residual.result _ c.from_residual.ensures.1
     (refusal_stops refusal c.args.list.now c.loop-name.name-index item _ (omega arith) c.loop-name-item.is c.loop-name.invariant
     (item_refused refusal item c.items.result.now _ c.items.ensures c.in_err-allow_value.ensures.refused))
 

@@ -57,40 +57,27 @@ loop-k-preserved g c =
       refusals = c.in_ok-told.ensures.refusals ∙ inv.refusals;
     }
 
-pub returns-in_err-told-clause-told : goal.returns-in_err-told-clause-told
-returns-in_err-told-clause-told g c = λ v meant.
-    let stopped = err_from_is_err_and c.from_residual.result c.from_residual.ensures.1 in
-    let first = c.args.session.now in
-    let inv = c.loop-k.invariant in
+pub returns-in_err-told : goal.returns-in_err-told
+returns-in_err-told g c =
     let list = c.args.list.now in
-    let own = c.assignment_at-own.result.now in
     let rest = drop (c.loop-k.k + 1) list in
+    let first = c.args.session.now in
+    let own = c.assignment_at-own.result.now in
+    let inv = c.loop-k.invariant in
+    let stopped = err_from_is_err_and c.from_residual.result c.from_residual.ensures.1 in
     rw stopped.1
-    (comes_to_part v (data_of first) g.L.SymbolLines.hear g.L.SymbolLines.part list (drop c.loop-k.k list) rest own (g.L.SymbolLines.heard c.args.out.now)
-    (g.L.SymbolLines.heard c.loop-k.out) (g.L.SymbolLines.heard c.expect_one.new.out) c.loop-k.missed c.assignment_at-own.ensures (inv.come v meant)
-    (c.in_err-told.ensures.told first v inv.only c.requires.table (meant_one first c.args.table.now list rest c.loop-k.k own v c.assignment_at-own.ensures meant)))
-
-pub returns-in_err-told-clause-only : goal.returns-in_err-told-clause-only
-returns-in_err-told-clause-only g c =
-    only_both c.args.session.now c.loop-k.session c.expect_one.new.session c.loop-k.invariant.only c.expect_one.ensures.only
-
-pub returns-in_err-told-clause-spent : goal.returns-in_err-told-clause-spent
-returns-in_err-told-clause-spent g c =
-    let stopped = err_from_is_err_and c.from_residual.result c.from_residual.ensures.1 in
-    rw (stopped.1, stopped.2) c.in_err-told.ensures.spent
-
-pub returns-in_err-told-clause-faults : goal.returns-in_err-told-clause-faults
-returns-in_err-told-clause-faults g c =
-    let stopped = err_from_is_err_and c.from_residual.result c.from_residual.ensures.1 in
-    rw (stopped.1, stopped.2)
-    (c.in_err-told.ensures.faults ∙ ap (λ (n : ℕ). faults_expected n (Err c.in_err-told.field-0.0)) c.loop-k.invariant.faults)
-
-pub returns-in_err-told-clause-refusals : goal.returns-in_err-told-clause-refusals
-returns-in_err-told-clause-refusals g c =
-    let stopped = err_from_is_err_and c.from_residual.result c.from_residual.ensures.1 in
-    rw (stopped.1, stopped.2)
-    (subst (λ (n : ℕ). RefusedExpected n (g.L.SymbolLines.refusals c.expect_one.new.out) (Err c.in_err-told.field-0.0)) c.loop-k.invariant.refusals
-    c.in_err-told.ensures.refusals)
+    (record {
+      told = λ v meant.
+          comes_to_part v (data_of first) g.L.SymbolLines.hear g.L.SymbolLines.part list (drop c.loop-k.k list) rest own (g.L.SymbolLines.heard c.args.out.now)
+          (g.L.SymbolLines.heard c.loop-k.out) (g.L.SymbolLines.heard c.expect_one.new.out) c.loop-k.missed c.assignment_at-own.ensures (inv.come v meant)
+          (c.in_err-told.ensures.told first v inv.only c.requires.table (meant_one first c.args.table.now list rest c.loop-k.k own v c.assignment_at-own.ensures meant));
+      only = only_both first c.loop-k.session c.expect_one.new.session inv.only c.expect_one.ensures.only;
+      spent = rw stopped.2 c.in_err-told.ensures.spent;
+      faults = rw stopped.2 (c.in_err-told.ensures.faults ∙ ap (λ (n : ℕ). faults_expected n (Err c.in_err-told.field-0.0)) inv.faults);
+      refusals = rw stopped.2
+          (subst (λ (n : ℕ). RefusedExpected n (g.L.SymbolLines.refusals c.expect_one.new.out) (Err c.in_err-told.field-0.0)) inv.refusals
+          c.in_err-told.ensures.refusals);
+    })
 
 pub returns-clause-told : goal.returns-clause-told
 returns-clause-told g c = λ v meant.

@@ -17,36 +17,28 @@ pub tell_unmet-requires : goal.tell_unmet-requires
 tell_unmet-requires g c =
     wanted_more c.args.session.now.stage c.first_of.new.session.stage c.first_of.ensures.only.makes c.args.pairs.now c.requires.wanted
 
-pub returns-in_err-found-clause-told : goal.returns-in_err-found-clause-told
-returns-in_err-found-clause-told g c = λ first table v was given meant.
+pub returns-in_err-found : goal.returns-in_err-found
+returns-in_err-found g c =
     let stopped = err_from_is_err_and c.from_residual.result c.from_residual.ensures.1 in
+    let silent = c.in_err-found.ensures.silent in
     rw stopped.1
-    (silent_tells v (data_of first) c.args.own.now g.L.SymbolLines.hear g.L.SymbolLines.part (g.L.SymbolLines.heard c.args.out.now) stopped.0)
-
-pub returns-in_err-found-clause-spent : goal.returns-in_err-found-clause-spent
-returns-in_err-found-clause-spent g c =
-    let stopped = err_from_is_err_and c.from_residual.result c.from_residual.ensures.1 in
-    rw (stopped.1, stopped.2) c.in_err-found.ensures.spent
-
-pub returns-in_err-found-clause-faults : goal.returns-in_err-found-clause-faults
-returns-in_err-found-clause-faults g c =
-    let stopped = err_from_is_err_and c.from_residual.result c.from_residual.ensures.1 in
-    rw (stopped.1, stopped.2) (silent_counts (g.L.SymbolLines.faults c.args.out.now) _ c.in_err-found.ensures.silent)
-
-pub returns-in_err-found-clause-refusals : goal.returns-in_err-found-clause-refusals
-returns-in_err-found-clause-refusals g c =
-    let stopped = err_from_is_err_and c.from_residual.result c.from_residual.ensures.1 in
-    rw (stopped.1, stopped.2) (silent_refused (g.L.SymbolLines.refusals c.args.out.now) _ c.in_err-found.ensures.silent)
+    (record {
+      told = λ first table v was given meant. silent_tells v (data_of first) c.args.own.now g.L.SymbolLines.hear g.L.SymbolLines.part (g.L.SymbolLines.heard c.args.out.now) stopped.0;
+      only = c.first_of.ensures.only;
+      spent = rw stopped.2 c.in_err-found.ensures.spent;
+      faults = rw stopped.2 (silent_counts (g.L.SymbolLines.faults c.args.out.now) _ silent);
+      refusals = rw stopped.2 (silent_refused (g.L.SymbolLines.refusals c.args.out.now) _ silent);
+    })
 
 pub returns-in-Some-clause-told : goal.returns-in-Some-clause-told
 returns-in-Some-clause-told g c = λ first table v was given meant.
-    let mid = c.args.session.now in
     let new = c.first_of.new.session in
-    let more = c.first_of.ensures.only in
     let own = c.args.own.now in
     let pairs = c.args.pairs.now in
     let missed : IsMissedFirst new.stage pairs c.deref.result.now =
     subst (λ (vars : List Bool). IsMissedFirst new.stage pairs vars) (sym c.deref.ensures.value) (rw c.in-Some.is at c.in_ok-found.ensures.first) in
+    let more = c.first_of.ensures.only in
+    let mid = c.args.session.now in
     line_tells v (data_of first) own g.L.SymbolLines.hear g.L.SymbolLines.part _ (g.L.SymbolLines.heard c.args.out.now) (g.L.SymbolLines.heard c.tell_unmet.new.out)
     c.tell_unmet.result
     (told_some first new (only_both first mid new was more) table own pairs (given_later first mid new was more table own pairs c.requires.wanted given) v meant

@@ -5,6 +5,7 @@ use Rattle.session_meaning.specs.Sessions.{SessionData}
 use Rattle.symbol_giving.specs.Giving.{data_of}
 use Rattle.symbol_giving.specs.Letters.{AreGivenBy}
 use Rattle.symbol_giving.specs.declared.letters.SymbolLetter.{SymbolLetter}
+use Rattle.truth_parts.proofs.KeptLemmas.{passed_on}
 use Rattle.symbol_giving.proofs.LetterLemmas.{only_both}
 use Rattle.symbol_expecting.specs.Missing.{AreWantedOf}
 use Rattle.symbol_expecting.proofs.FaultLemmas.{silent_counts, silent_refused}
@@ -28,9 +29,7 @@ returns-in_err-pairs-clause-told g c = λ first v was is meant.
     (silent_tells v (data_of first) c.args.own.now g.L.SymbolLines.hear g.L.SymbolLines.part (g.L.SymbolLines.heard c.args.out.now) stopped.0)
 
 pub returns-in_err-pairs-clause-spent : goal.returns-in_err-pairs-clause-spent
-returns-in_err-pairs-clause-spent g c =
-    let stopped = err_from_is_err_and c.from_residual.result c.from_residual.ensures.1 in
-    rw (stopped.1, stopped.2) c.in_err-pairs.ensures.spent
+returns-in_err-pairs-clause-spent g c = passed_on _ c.from_residual.result _ c.from_residual.ensures.1 c.in_err-pairs.ensures.spent
 
 pub returns-in_err-pairs-clause-faults : goal.returns-in_err-pairs-clause-faults
 returns-in_err-pairs-clause-faults g c =

@@ -1,6 +1,6 @@
 -- The first column in which the function holds is the first in which some node isn't as it is wanted.
 use Rattle.std.proofs.Common.{◌≡◌, ℕ, Bool, Option, false, length, sym, subst}
-use Rattle.std.proofs.lemmas.Result.{err_from_is_err_and}
+use Rattle.truth_parts.proofs.KeptLemmas.{passed_on}
 use Rattle.std.specs.Prelude.{IfNone, IfSome, Vec}
 use Rattle.std.specs.declared.alloc.Global.{Global}
 use Rattle.decision_graph.specs.Meaning.{assigned}
@@ -27,9 +27,7 @@ returns-in-Ok-clause-first c =
     c.symbols.ensures c.in-Ok.ensures.never)
 
 pub returns-in_err-made-clause-spent : goal.returns-in_err-made-clause-spent
-returns-in_err-made-clause-spent c =
-    let stopped = err_from_is_err_and c.from_residual.result c.from_residual.ensures.1 in
-    rw (stopped.1, stopped.2) c.in_err-made.ensures.spent
+returns-in_err-made-clause-spent c = passed_on _ c.from_residual.result _ c.from_residual.ensures.1 c.in_err-made.ensures.spent
 
 pub returns-in-Err-clause-spent : goal.returns-in-Err-clause-spent
 returns-in-Err-clause-spent c = λ full. absurd (cc)

@@ -1,7 +1,7 @@
 -- One node more.
 use Rattle.std.proofs.Common.{ℕ, List, not, sym, ap, ◌∙◌, arith}
 use Rattle.std.proofs.lemmas.List.{take_all}
-use Rattle.std.proofs.lemmas.Result.{err_from_is_err_and}
+use Rattle.truth_parts.proofs.KeptLemmas.{passed_on}
 use Rattle.symbol_giving.specs.declared.letters.SymbolLetter.{SymbolLetter}
 use Rattle.symbol_expecting.specs.Missing.{are_met_in, MakesOn}
 use Rattle.symbol_expecting.proofs.MissingLemmas.{count_more, makes_more, makes_none, missed_next, own_more, there_more, wanted_at}
@@ -52,9 +52,7 @@ returns-in_err-own-clause-makes c =
     makes_more c.args.stage.now c.loop-k.stage c.missed_at.new.stage c.loop-k.invariant.makes c.in_err-own.ensures.makes
 
 pub returns-in_err-own-clause-spent : goal.returns-in_err-own-clause-spent
-returns-in_err-own-clause-spent c =
-    let p = err_from_is_err_and c.from_residual.result c.from_residual.ensures.1 in
-    rw (p.1, p.2) c.in_err-own.ensures.spent
+returns-in_err-own-clause-spent c = passed_on _ c.from_residual.result _ c.from_residual.ensures.1 c.in_err-own.ensures.spent
 
 pub returns-in_err-more-clause-makes : goal.returns-in_err-more-clause-makes
 returns-in_err-more-clause-makes c =
@@ -63,9 +61,7 @@ returns-in_err-more-clause-makes c =
     (record { makes = c.in_err-more.ensures.makes; built = c.in_err-more.ensures.built })
 
 pub returns-in_err-more-clause-spent : goal.returns-in_err-more-clause-spent
-returns-in_err-more-clause-spent c =
-    let p = err_from_is_err_and c.from_residual-in_err-more.result c.from_residual-in_err-more.ensures.1 in
-    rw (p.1, p.2) c.in_err-more.ensures.full
+returns-in_err-more-clause-spent c = passed_on _ c.from_residual-in_err-more.result _ c.from_residual-in_err-more.ensures.1 c.in_err-more.ensures.full
 
 pub returns-clause-value : goal.returns-clause-value
 returns-clause-value c = λ column inside.

@@ -1,5 +1,5 @@
 -- A node isn't X where one of its rails isn't there.
-use Rattle.std.proofs.lemmas.Result.{err_from_is_err_and}
+use Rattle.truth_parts.proofs.KeptLemmas.{passed_on}
 use Rattle.symbol_expecting.specs.Missing.{MakesOn}
 use Rattle.symbol_expecting.proofs.MissingLemmas.{makes_more, there_more, unknown_missed}
 use Rattle.symbol_expecting.proofs.missing.not_unknown.Goals as goal
@@ -22,9 +22,7 @@ pub returns-in_err-no_one-clause-makes : goal.returns-in_err-no_one-clause-makes
 returns-in_err-no_one-clause-makes c = record { makes = c.negated.ensures.makes; built = c.negated.ensures.built }
 
 pub returns-in_err-no_one-clause-spent : goal.returns-in_err-no_one-clause-spent
-returns-in_err-no_one-clause-spent c =
-    let p = err_from_is_err_and c.from_residual.result c.from_residual.ensures.1 in
-    rw (p.1, p.2) c.in_err-no_one.ensures.full
+returns-in_err-no_one-clause-spent c = passed_on _ c.from_residual.result _ c.from_residual.ensures.1 c.in_err-no_one.ensures.full
 
 pub returns-in_err-no_zero-clause-makes : goal.returns-in_err-no_zero-clause-makes
 returns-in_err-no_zero-clause-makes c =
@@ -32,9 +30,7 @@ returns-in_err-no_zero-clause-makes c =
     (record { makes = c.negated-2.ensures.makes; built = c.negated-2.ensures.built })
 
 pub returns-in_err-no_zero-clause-spent : goal.returns-in_err-no_zero-clause-spent
-returns-in_err-no_zero-clause-spent c =
-    let p = err_from_is_err_and c.from_residual-in_err-no_zero.result c.from_residual-in_err-no_zero.ensures.1 in
-    rw (p.1, p.2) c.in_err-no_zero.ensures.full
+returns-in_err-no_zero-clause-spent c = passed_on _ c.from_residual-in_err-no_zero.result _ c.from_residual-in_err-no_zero.ensures.1 c.in_err-no_zero.ensures.full
 
 pub returns-in_err-made-clause-makes : goal.returns-in_err-made-clause-makes
 returns-in_err-made-clause-makes c =
@@ -43,9 +39,7 @@ returns-in_err-made-clause-makes c =
     (record { makes = c.negated-2.ensures.makes; built = c.negated-2.ensures.built })) (record { makes = c.either.ensures.makes; built = c.either.ensures.built })
 
 pub returns-in_err-made-clause-spent : goal.returns-in_err-made-clause-spent
-returns-in_err-made-clause-spent c =
-    let p = err_from_is_err_and c.from_residual-in_err-made.result c.from_residual-in_err-made.ensures.1 in
-    rw (p.1, p.2) c.in_err-made.ensures.full
+returns-in_err-made-clause-spent c = passed_on _ c.from_residual-in_err-made.result _ c.from_residual-in_err-made.ensures.1 c.in_err-made.ensures.full
 
 pub returns-clause-makes : goal.returns-clause-makes
 returns-clause-makes c =

@@ -2,58 +2,36 @@
 use Rattle.std.proofs.Common.{◌≡◌, ◌∙◌, ℕ, List, ◌∷◌, [], inl, refl, ap, ap₂, sym, subst}
 use Rattle.std.proofs.lemmas.Result.{err_from_is_err_and}
 use Rattle.ternary.specs.declared.tern.Tern.{Tern}
+use Rattle.told_lines.specs.Hearing.{HearsFront}
 use Rattle.told_lines.proofs.HearingLemmas.{so_far-start}
 use Rattle.symbol_meaning.specs.Told.{SymbolTold, Unmet}
+use Rattle.symbol_told.specs.Lines.{Telling}
 use Rattle.symbol_stage.specs.Stages.{StageData}
 use Rattle.symbol_expecting.specs.Missing.{AreWantedOf}
 use Rattle.symbol_expecting.specs.Telling.{states_under, telling_alone, unmet_told, TellsLine}
 use Rattle.symbol_expecting.proofs.FaultLemmas.{unheard_spent}
 use Rattle.symbol_expecting.proofs.telling.tell_unmet.Goals as goal
 
+-- nothing of a line was heard
+untold : {H : Type 0} (hear : H → Telling → H) (part : H → Telling → H → Type 0) (line : Telling) (before : H) → HearsFront hear part before before (line ∷ [])
+untold hear part line before = inl (line ∷ [], so_far-start hear before (line ∷ []))
+
 pub states-requires : goal.states-requires
 states-requires g c = subst (λ (stage : StageData). AreWantedOf stage c.args.pairs.now) (sym c.stage.ensures.value) c.requires
 
-pub returns-in_err-wanted-clause-told : goal.returns-in_err-wanted-clause-told
-returns-in_err-wanted-clause-told g c =
+pub returns-in_err-wanted : goal.returns-in_err-wanted
+returns-in_err-wanted g c =
     let stopped = err_from_is_err_and c.from_residual.result c.from_residual.ensures.1 in
     let line = telling_alone (unmet_told c.args.session.now c.args.own.now c.args.pairs.now c.args.vars.now c.args.n) in
-    rw stopped.1 (inl (line ∷ [], so_far-start g.L.SymbolLines.hear (g.L.SymbolLines.heard c.args.out.now) (line ∷ [])))
+    rw (stopped.1, stopped.2)
+    (record { told = untold g.L.SymbolLines.hear g.L.SymbolLines.part line (g.L.SymbolLines.heard c.args.out.now); spent = tt; faults = refl; refusals = refl })
 
-pub returns-in_err-got-clause-told : goal.returns-in_err-got-clause-told
-returns-in_err-got-clause-told g c =
+pub returns-in_err-got : goal.returns-in_err-got
+returns-in_err-got g c =
     let stopped = err_from_is_err_and c.from_residual-in_err-got.result c.from_residual-in_err-got.ensures.1 in
     let line = telling_alone (unmet_told c.args.session.now c.args.own.now c.args.pairs.now c.args.vars.now c.args.n) in
-    rw stopped.1 (inl (line ∷ [], so_far-start g.L.SymbolLines.hear (g.L.SymbolLines.heard c.args.out.now) (line ∷ [])))
-
-pub returns-in_err-wanted-clause-spent : goal.returns-in_err-wanted-clause-spent
-returns-in_err-wanted-clause-spent g c =
-    let stopped = err_from_is_err_and c.from_residual.result c.from_residual.ensures.1 in
-    rw (stopped.1, stopped.2) tt
-
-pub returns-in_err-got-clause-spent : goal.returns-in_err-got-clause-spent
-returns-in_err-got-clause-spent g c =
-    let stopped = err_from_is_err_and c.from_residual-in_err-got.result c.from_residual-in_err-got.ensures.1 in
-    rw (stopped.1, stopped.2) tt
-
-pub returns-in_err-wanted-clause-faults : goal.returns-in_err-wanted-clause-faults
-returns-in_err-wanted-clause-faults g c =
-    let stopped = err_from_is_err_and c.from_residual.result c.from_residual.ensures.1 in
-    rw (stopped.1, stopped.2) refl
-
-pub returns-in_err-got-clause-faults : goal.returns-in_err-got-clause-faults
-returns-in_err-got-clause-faults g c =
-    let stopped = err_from_is_err_and c.from_residual-in_err-got.result c.from_residual-in_err-got.ensures.1 in
-    rw (stopped.1, stopped.2) refl
-
-pub returns-in_err-wanted-clause-refusals : goal.returns-in_err-wanted-clause-refusals
-returns-in_err-wanted-clause-refusals g c =
-    let stopped = err_from_is_err_and c.from_residual.result c.from_residual.ensures.1 in
-    rw (stopped.1, stopped.2) refl
-
-pub returns-in_err-got-clause-refusals : goal.returns-in_err-got-clause-refusals
-returns-in_err-got-clause-refusals g c =
-    let stopped = err_from_is_err_and c.from_residual-in_err-got.result c.from_residual-in_err-got.ensures.1 in
-    rw (stopped.1, stopped.2) refl
+    rw (stopped.1, stopped.2)
+    (record { told = untold g.L.SymbolLines.hear g.L.SymbolLines.part line (g.L.SymbolLines.heard c.args.out.now); spent = tt; faults = refl; refusals = refl })
 
 pub returns-clause-told : goal.returns-clause-told
 returns-clause-told g c =

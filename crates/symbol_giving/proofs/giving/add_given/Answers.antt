@@ -1,7 +1,7 @@
 -- One node more.
 use Rattle.std.proofs.Common.{◌+◌, ℕ, List, get_or, drop, ap, arith}
 use Rattle.std.proofs.lemmas.List.{drop_all, get_or_default}
-use Rattle.std.proofs.lemmas.Result.{err_from_is_err_and}
+use Rattle.truth_parts.proofs.KeptLemmas.{passed_on}
 use Rattle.node_values.specs.Givings.{states_given}
 use Rattle.symbol_stage.specs.Given.{letter_given}
 use Rattle.session_meaning.specs.Truths.{letters_in_column}
@@ -35,9 +35,7 @@ loop-node-preserved c =
     }
 
 pub returns-in_err-add_letter-clause-spent : goal.returns-in_err-add_letter-clause-spent
-returns-in_err-add_letter-clause-spent c =
-    let stopped = err_from_is_err_and c.from_residual.result c.from_residual.ensures.1 in
-    rw (stopped.1, stopped.2) c.in_err-add_letter.ensures.spent
+returns-in_err-add_letter-clause-spent c = passed_on _ c.from_residual.result _ c.from_residual.ensures.1 c.in_err-add_letter.ensures.spent
 
 pub returns-clause-own : goal.returns-clause-own
 returns-clause-own c = c.loop-node.invariant.own

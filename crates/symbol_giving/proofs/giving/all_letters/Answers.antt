@@ -2,7 +2,7 @@
 use Rattle.std.proofs.Common.{ℕ, ◌≡◌, ◌<◌, ◌++◌, List, All, sym, ap, subst, arith}
 use Rattle.std.proofs.lemmas.List.{drop_all}
 use Rattle.std.proofs.lemmas.List.Elements.{All-nil}
-use Rattle.std.proofs.lemmas.Result.{err_from_is_err_and}
+use Rattle.truth_parts.proofs.KeptLemmas.{passed_on}
 use Rattle.node_values.specs.Givings.{states_given}
 use Rattle.symbol_script.specs.declared.line.Assignment.{Assignment}
 use Rattle.symbol_stage.specs.declared.given.Letters.{Letters}
@@ -76,22 +76,20 @@ pub returns-in_err-pairs-clause-only : goal.returns-in_err-pairs-clause-only
 returns-in_err-pairs-clause-only c =
     only_both c.args.session.now c.loop-own.session c.letters_of.new.session c.loop-own.invariant.only c.letters_of.ensures.only
 
-pub returns-in_err-pairs-clause-spent : goal.returns-in_err-pairs-clause-spent
-returns-in_err-pairs-clause-spent c =
-    let stopped = err_from_is_err_and c.from_residual.result c.from_residual.ensures.1 in
-    rw (stopped.1, stopped.2) c.in_err-pairs.ensures.spent
-
 pub returns-in_err-add_given-clause-only : goal.returns-in_err-add_given-clause-only
 returns-in_err-add_given-clause-only c =
     only_both c.args.session.now c.loop-own.session c.letters_of.new.session c.loop-own.invariant.only c.letters_of.ensures.only
 
-pub returns-in_err-add_given-clause-spent : goal.returns-in_err-add_given-clause-spent
-returns-in_err-add_given-clause-spent c =
-    let stopped = err_from_is_err_and c.from_residual-in_err-add_given.result c.from_residual-in_err-add_given.ensures.1 in
-    rw (stopped.1, stopped.2, ← c.stage.ensures.value) c.in_err-add_given.ensures.spent
+pub returns-in_err-pairs-clause-spent : goal.returns-in_err-pairs-clause-spent
+returns-in_err-pairs-clause-spent c = passed_on _ c.from_residual.result _ c.from_residual.ensures.1 c.in_err-pairs.ensures.spent
 
 pub returns-clause-only : goal.returns-clause-only
 returns-clause-only c = c.loop-own.invariant.only
+
+pub returns-in_err-add_given-clause-spent : goal.returns-in_err-add_given-clause-spent
+returns-in_err-add_given-clause-spent c =
+    passed_on _ c.from_residual-in_err-add_given.result _ c.from_residual-in_err-add_given.ensures.1
+    (rw c.stage.ensures.value at c.in_err-add_given.ensures.spent)
 
 pub returns-clause-own : goal.returns-clause-own
 returns-clause-own c = c.loop-own.invariant.own

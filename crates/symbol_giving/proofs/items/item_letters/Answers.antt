@@ -1,7 +1,7 @@
 -- The letters are put side by side with the nodes.
 use Rattle.std.proofs.Common.{ℕ, List, All, ap, subst, sym, ◌∙◌}
 use Rattle.std.specs.Prelude.{zip}
-use Rattle.std.proofs.lemmas.Result.{err_from_is_err_and}
+use Rattle.truth_parts.proofs.KeptLemmas.{passed_on}
 use Rattle.vector_values.specs.Values.{Letter}
 use Rattle.symbol_giving.specs.declared.letters.SymbolLetter.{SymbolLetter}
 use Rattle.symbol_giving.specs.Letters.{IsLetterOf, pairs_in}
@@ -9,9 +9,7 @@ use Rattle.symbol_giving.proofs.LetterLemmas.{zipped_in, zipped_own}
 use Rattle.symbol_giving.proofs.items.item_letters.Goals as goal
 
 pub returns-in_err-letters-clause-spent : goal.returns-in_err-letters-clause-spent
-returns-in_err-letters-clause-spent c =
-    let stopped = err_from_is_err_and c.from_residual.result c.from_residual.ensures.1 in
-    rw (stopped.1, stopped.2) c.in_err-letters.ensures.spent
+returns-in_err-letters-clause-spent c = passed_on _ c.from_residual.result _ c.from_residual.ensures.1 c.in_err-letters.ensures.spent
 
 pub returns-in-Ok-clause-letters : goal.returns-in-Ok-clause-letters
 returns-in-Ok-clause-letters c = λ column inside.

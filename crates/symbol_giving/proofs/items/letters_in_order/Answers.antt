@@ -1,7 +1,7 @@
 -- One item more: the letters that were made are what they were.
 use Rattle.std.proofs.Common.{◌++◌, List, All, map, sym, ap, subst, arith}
 use Rattle.std.proofs.lemmas.List.Elements.{All-nil, All-push}
-use Rattle.std.proofs.lemmas.Result.{err_from_is_err_and}
+use Rattle.truth_parts.proofs.KeptLemmas.{passed_on}
 use Rattle.symbol_meaning.specs.Readings.{letter_under}
 use Rattle.symbol_giving.specs.declared.letters.SymbolLetter.{SymbolLetter}
 use Rattle.symbol_giving.specs.Letters.{IsLetterOf, letter_in, named_in}
@@ -45,9 +45,7 @@ returns-in_err-letter-clause-only c =
     only_both c.args.session.now c.loop-item.session c.item_letter.new.session c.loop-item.invariant.only c.item_letter.ensures.only
 
 pub returns-in_err-letter-clause-spent : goal.returns-in_err-letter-clause-spent
-returns-in_err-letter-clause-spent c =
-    let stopped = err_from_is_err_and c.from_residual.result c.from_residual.ensures.1 in
-    rw (stopped.1, stopped.2) c.in_err-letter.ensures.spent
+returns-in_err-letter-clause-spent c = passed_on _ c.from_residual.result _ c.from_residual.ensures.1 c.in_err-letter.ensures.spent
 
 pub returns-in_err-push-clause-only : goal.returns-in_err-push-clause-only
 returns-in_err-push-clause-only c =
@@ -55,8 +53,8 @@ returns-in_err-push-clause-only c =
 
 pub returns-in_err-push-clause-spent : goal.returns-in_err-push-clause-spent
 returns-in_err-push-clause-spent c =
-    let stopped = err_from_is_err_and c.from_residual-in_err-push.result c.from_residual-in_err-push.ensures.1 in
-    rw (stopped.1, stopped.2) (spent_by_memory c.item_letter.new.session.stage _ c.in_err-push.ensures.room)
+    passed_on _ c.from_residual-in_err-push.result _ c.from_residual-in_err-push.ensures.1
+    (spent_by_memory c.item_letter.new.session.stage _ c.in_err-push.ensures.room)
 
 pub returns-clause-letters : goal.returns-clause-letters
 returns-clause-letters c = λ column inside.

@@ -10,16 +10,9 @@ read_words-requires c =
     reading-words c.args.bytes.now c.in-Ok.ensures.fault (sym c.is_comment.ensures.test ∙ c.if-is_comment.false)
     ∙ ap reading_of_words (sym c.words.ensures.parts)
 
-pub returns-clause-ok : goal.returns-clause-ok
-returns-clause-ok c =
+pub returns : goal.returns
+returns c =
     let same : symbol_reading_of c.args.quiet c.args.bytes.now ≡ asked_by_words c.args.quiet c.words.result =
     asked-words c.args.quiet c.args.bytes.now c.in-Ok.ensures.fault (sym c.is_comment.ensures.test ∙ c.if-is_comment.false)
     ∙ ap (asked_by_words c.args.quiet) (sym c.words.ensures.parts) in
-    rw same c.read_words.ensures.ok
-
-pub returns-clause-refused : goal.returns-clause-refused
-returns-clause-refused c =
-    let same : symbol_reading_of c.args.quiet c.args.bytes.now ≡ asked_by_words c.args.quiet c.words.result =
-    asked-words c.args.quiet c.args.bytes.now c.in-Ok.ensures.fault (sym c.is_comment.ensures.test ∙ c.if-is_comment.false)
-    ∙ ap (asked_by_words c.args.quiet) (sym c.words.ensures.parts) in
-    rw same c.read_words.ensures.refused
+    record { ok = rw same c.read_words.ensures.ok; refused = rw same c.read_words.ensures.refused }

@@ -19,14 +19,10 @@ work_on_stage-requires c =
     )
 
 pub returns-in_err-pairs-clause-inside : goal.returns-in_err-pairs-clause-inside
-returns-in_err-pairs-clause-inside c =
-    let p = err_from_is_err_and c.from_residual.result c.from_residual.ensures.1 in
-    rw p.1 tt
+returns-in_err-pairs-clause-inside c = rw (err_from_is_err_and c.from_residual.result c.from_residual.ensures.1).1 tt
 
 pub returns-in_err-pairs-clause-holds : goal.returns-in_err-pairs-clause-holds
-returns-in_err-pairs-clause-holds c =
-    let p = err_from_is_err_and c.from_residual.result c.from_residual.ensures.1 in
-    rw p.1 tt
+returns-in_err-pairs-clause-holds c = rw (err_from_is_err_and c.from_residual.result c.from_residual.ensures.1).1 tt
 
 pub returns-clause-only : goal.returns-clause-only
 returns-clause-only c =

@@ -2,7 +2,8 @@
 use Rattle.std.proofs.Common.{subst, sym, ap, ◌∙◌, arith}
 use Rattle.std.proofs.lemmas.Result.{err_from_is_err_and}
 use Rattle.ternary.specs.Tern.{may_one, may_zero}
-use Rattle.truth_columns.proofs.ColumnLemmas.{pair_reads, output_in_column}
+use Rattle.straight_code.proofs.RunMappedLemmas.{pair_reads}
+use Rattle.truth_columns.proofs.ColumnLemmas.{output_in_column}
 use Rattle.truth_columns.proofs.run.output.Goals as goal
 
 pub offset_bounds-values-pair : goal.offset_bounds-values-pair

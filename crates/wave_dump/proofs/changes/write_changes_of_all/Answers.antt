@@ -39,18 +39,17 @@ loop-number-preserved g c =
       before = c.write_change-told.ensures.before ∙ c.loop-number.invariant.before;
     }
 
-pub returns-clause-shown : goal.returns-clause-shown
-returns-clause-shown g c =
+pub returns : goal.returns
+returns g c =
     let entries = c.args.entries.now in
     let count = length entries in
-    changes_all (shown_of entries) (values_in c.args.states.now (entries_of entries)) (both-count c.args.states.now entries) (numbers_from 0 count)
-    c.args.is_told c.args.time c.args.pen.now.text (shown_of c.loop-number.entries) c.loop-number.number
-    (omega (arith, c.loop-number-test.false, numbers-count 0 count)) c.loop-number.told c.loop-number.pen.text c.loop-number.invariant.so_far
-
-pub returns-clause-text : goal.returns-clause-text
-returns-clause-text g c =
-    let entries = c.args.entries.now in
-    let count = length entries in
-    changes_written (shown_of entries) (values_in c.args.states.now (entries_of entries)) (both-count c.args.states.now entries) (numbers_from 0 count)
-    c.args.is_told c.args.time c.args.pen.now.text (shown_of c.loop-number.entries) c.loop-number.number
-    (omega (arith, c.loop-number-test.false, numbers-count 0 count)) c.loop-number.told c.loop-number.pen.text c.loop-number.invariant.so_far
+    record {
+      entries = c.loop-number.invariant.entries;
+      shown = changes_all (shown_of entries) (values_in c.args.states.now (entries_of entries)) (both-count c.args.states.now entries) (numbers_from 0 count)
+          c.args.is_told c.args.time c.args.pen.now.text (shown_of c.loop-number.entries) c.loop-number.number
+          (omega (arith, c.loop-number-test.false, numbers-count 0 count)) c.loop-number.told c.loop-number.pen.text c.loop-number.invariant.so_far;
+      text = changes_written (shown_of entries) (values_in c.args.states.now (entries_of entries)) (both-count c.args.states.now entries) (numbers_from 0 count)
+          c.args.is_told c.args.time c.args.pen.now.text (shown_of c.loop-number.entries) c.loop-number.number
+          (omega (arith, c.loop-number-test.false, numbers-count 0 count)) c.loop-number.told c.loop-number.pen.text c.loop-number.invariant.so_far;
+      before = c.loop-number.invariant.before;
+    }

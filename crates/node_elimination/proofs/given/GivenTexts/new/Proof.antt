@@ -10,7 +10,7 @@ use denote.Signature.{types_at}
 use denote.Steps.{nothing}
 use denote.Triple.Entry.{alive}
 use denote.Triple.Walked.{walk_of, says, ends_at}
-use Rattle.node_elimination.proofs.GivenWalks.{none, none_made}
+use Rattle.unseen_text.proofs.TextWalks.{none, none_made}
 use Rattle.node_elimination.specs.contracts.given.GivenTexts.new as f
 use Rattle.node_elimination.proofs.given.GivenTexts.new.Statement.{statement}
 use Rattle.node_elimination.proofs.given.GivenTexts.new.Code as code

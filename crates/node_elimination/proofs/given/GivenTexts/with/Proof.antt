@@ -15,7 +15,7 @@ use denote.Steps.{nothing}
 use denote.Triple.Entry.{alive}
 use denote.Triple.Walked.{Stays, walk_of, says, stay_dropped, Goes-dropped, ends_at}
 use Rattle.group_text.specs.contracts.text.GroupText.{the_row as text_row}
-use Rattle.node_elimination.proofs.GivenWalks.{none, none_made}
+use Rattle.unseen_text.proofs.TextWalks.{none, none_made}
 use Rattle.node_elimination.specs.contracts.given.GivenTexts.{the_row}
 use Rattle.node_elimination.specs.contracts.given.GivenTexts.with as f
 use Rattle.node_elimination.proofs.given.GivenTexts.with.Statement.{statement}

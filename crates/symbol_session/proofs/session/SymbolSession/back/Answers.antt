@@ -1,6 +1,7 @@
 -- It is refused if nothing is kept; else in each column the states that are kept are given back.
-use Rattle.std.proofs.Common.{refl, sym, ◌∙◌}
+use Rattle.std.proofs.Common.{◌≡◌, ◌+◌, refl, sym, ◌∙◌}
 use Rattle.session_meaning.specs.declared.fault.Refusal.TheVariants.{NoSave}
+use Rattle.symbol_session.specs.Keeping.{before_save, kept_by, letters_from, nodes_under}
 use Rattle.symbol_session.specs.Sessions.{maker_of}
 use Rattle.symbol_session.proofs.BackLemmas.{back_done, back_refused, letters_railed, letters_within, pairs_own, pairs_past, pairs_within}
 use Rattle.symbol_session.proofs.DataLemmas.{keeps_same, stays_same}
@@ -29,26 +30,21 @@ letters_kept-requires-clause-railed c =
     rw c.found-found.ensures.nodes
     (letters_railed c.args.self.now c.is_well_formed.ensures.own c.is_well_formed.ensures.session c.args.name.now there)
 
-pub put_letters-requires-clause-within : goal.put_letters-requires-clause-within
-put_letters-requires-clause-within c =
+pub put_letters-requires : goal.put_letters-requires
+put_letters-requires c =
+    let d = c.args.self.now in
+    let name = c.args.name.now in
+    let own = c.is_well_formed.ensures.own in
+    let held = c.is_well_formed.ensures.session in
     let there = sym c.found-found.ensures.there ∙ c.if-not-there.false in
+    let are : c.in-Ok.pairs.items ≡ letters_from d.kept (1 + kept_by (before_save d.saves name)) (nodes_under d.saves name) =
+    rw (c.found-found.ensures.place, c.found-found.ensures.nodes) at c.in-Ok.ensures in
     rw c.deref.ensures.value
-    (pairs_within c.args.self.now c.is_well_formed.ensures.own c.is_well_formed.ensures.session c.args.name.now there c.in-Ok.pairs.items
-    (rw (c.found-found.ensures.place, c.found-found.ensures.nodes) at c.in-Ok.ensures))
-
-pub put_letters-requires-clause-past : goal.put_letters-requires-clause-past
-put_letters-requires-clause-past c =
-    let there = sym c.found-found.ensures.there ∙ c.if-not-there.false in
-    rw c.deref.ensures.value
-    (pairs_past c.args.self.now c.is_well_formed.ensures.own c.is_well_formed.ensures.session c.args.name.now there c.in-Ok.pairs.items
-    (rw (c.found-found.ensures.place, c.found-found.ensures.nodes) at c.in-Ok.ensures))
-
-pub put_letters-requires-clause-own : goal.put_letters-requires-clause-own
-put_letters-requires-clause-own c =
-    let there = sym c.found-found.ensures.there ∙ c.if-not-there.false in
-    rw c.deref.ensures.value
-    (pairs_own c.args.self.now c.is_well_formed.ensures.own c.is_well_formed.ensures.session c.args.name.now there c.in-Ok.pairs.items
-    (rw (c.found-found.ensures.place, c.found-found.ensures.nodes) at c.in-Ok.ensures))
+    (record {
+      within = pairs_within d own held name there c.in-Ok.pairs.items are;
+      past = pairs_past d own held name there c.in-Ok.pairs.items are;
+      own = pairs_own d own held name there c.in-Ok.pairs.items are;
+    })
 
 pub returns-in-Ok-clause-quiet : goal.returns-in-Ok-clause-quiet
 returns-in-Ok-clause-quiet c =

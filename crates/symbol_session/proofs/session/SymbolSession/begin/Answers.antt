@@ -23,33 +23,18 @@ pub over-session-requires-clause-serves : goal.over-session-requires-clause-serv
 over-session-requires-clause-serves c = λ kept built. absurd (let e : true ≡ false = sym built ∙ c.in-Ok.ensures.stage.unbuilt in cc e)
 
 pub invariant_of-result : goal.invariant_of-result
-invariant_of-result c =
-    let d : SymbolData = record { session = c.over-session.result; names = c.pieces.new.names; kept = c.in-Ok.kept.items; saves = c.new.result.items; count = 0; quiet = c.args.quiet; text = c.args.text.text } in
-    let is : HasStarted d c.args.symbols c.args.circuit =
-    started d c.args.symbols c.args.circuit c.args.variables.now c.in-Ok.stage c.over-session.ensures.stage c.in-Ok.ensures.stage c.in-Ok.ensures.named
-    c.in-Ok.ensures.kept c.new.ensures.items refl c.requires.maker c.requires.variables c.over-session.ensures.start in
-    (is.session, omega arith)
+invariant_of-result c = (
+  (started
+      (record { session = c.over-session.result; names = c.pieces.new.names; kept = c.in-Ok.kept.items; saves = c.new.result.items; count = 0; quiet = c.args.quiet; text = c.args.text.text })
+      c.args.symbols c.args.circuit c.args.variables.now c.in-Ok.stage c.over-session.ensures.stage c.in-Ok.ensures.stage c.in-Ok.ensures.named
+      c.in-Ok.ensures.kept c.new.ensures.items refl c.requires.maker c.requires.variables c.over-session.ensures.start).session,
+  omega arith,
+)
 
-pub returns-in-Ok-clause-starts : goal.returns-in-Ok-clause-starts
-returns-in-Ok-clause-starts c =
+pub returns-in-Ok : goal.returns-in-Ok
+returns-in-Ok c =
     let d : SymbolData = record { session = c.over-session.result; names = c.pieces.new.names; kept = c.in-Ok.kept.items; saves = c.new.result.items; count = 0; quiet = c.args.quiet; text = c.args.text.text } in
     let is : HasStarted d c.args.symbols c.args.circuit =
     started d c.args.symbols c.args.circuit c.args.variables.now c.in-Ok.stage c.over-session.ensures.stage c.in-Ok.ensures.stage c.in-Ok.ensures.named
     c.in-Ok.ensures.kept c.new.ensures.items refl c.requires.maker c.requires.variables c.over-session.ensures.start in
-    is.starts
-
-pub returns-in-Ok-clause-serves : goal.returns-in-Ok-clause-serves
-returns-in-Ok-clause-serves c =
-    let d : SymbolData = record { session = c.over-session.result; names = c.pieces.new.names; kept = c.in-Ok.kept.items; saves = c.new.result.items; count = 0; quiet = c.args.quiet; text = c.args.text.text } in
-    let is : HasStarted d c.args.symbols c.args.circuit =
-    started d c.args.symbols c.args.circuit c.args.variables.now c.in-Ok.stage c.over-session.ensures.stage c.in-Ok.ensures.stage c.in-Ok.ensures.named
-    c.in-Ok.ensures.kept c.new.ensures.items refl c.requires.maker c.requires.variables c.over-session.ensures.start in
-    is.serves
-
-pub returns-in-Ok-clause-keeps : goal.returns-in-Ok-clause-keeps
-returns-in-Ok-clause-keeps c =
-    let d : SymbolData = record { session = c.over-session.result; names = c.pieces.new.names; kept = c.in-Ok.kept.items; saves = c.new.result.items; count = 0; quiet = c.args.quiet; text = c.args.text.text } in
-    let is : HasStarted d c.args.symbols c.args.circuit =
-    started d c.args.symbols c.args.circuit c.args.variables.now c.in-Ok.stage c.over-session.ensures.stage c.in-Ok.ensures.stage c.in-Ok.ensures.named
-    c.in-Ok.ensures.kept c.new.ensures.items refl c.requires.maker c.requires.variables c.over-session.ensures.start in
-    is.keeps
+    record { quiet = refl; text = refl; starts = is.starts; serves = is.serves; keeps = is.keeps; own = tt; some = tt }

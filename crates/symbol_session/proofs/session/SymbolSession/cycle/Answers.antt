@@ -28,52 +28,46 @@ loop-cycle-init g c =
       refusals = refl;
     }
 
-pub returns-in_err-cycle_once-clause-moves : goal.returns-in_err-cycle_once-clause-moves
-returns-in_err-cycle_once-clause-moves g c =
+pub returns-in_err-cycle_once : goal.returns-in_err-cycle_once
+returns-in_err-cycle_once g c =
     let stopped = err_from_is_err_and c.from_residual.result c.from_residual.ensures.1 in
+    let inv = c.loop-cycle.invariant in
+    let fault = c.in_err-cycle_once.field-0.0 in
     let start = c.args.self.now in
     let now = c.loop-cycle.self in
     let count = places_of start.session.core.clocks in
-    let before = g.L.SymbolLines.heard c.args.out.now in
+    let split = cycles-split count c.loop-cycle._cycle c.args.times c.loop-cycle-test.true in
     let between = g.L.SymbolLines.heard c.loop-cycle.out in
     let after = g.L.SymbolLines.heard c.cycle_once.new.out in
-    let split = cycles-split count c.loop-cycle._cycle c.args.times c.loop-cycle-test.true in
     let here =
     subst (λ (n : ℕ). BeatsBegun g.L.SymbolLines.hear g.L.SymbolLines.part n (range_with_len 0 (places_of now.session.core.clocks)) (data_of now) between after)
-    c.loop-cycle.invariant.keeps.count c.in_err-cycle_once.ensures.moves in
+    inv.keeps.count c.in_err-cycle_once.ensures.moves in
     let is =
     subst (λ (clocks : List ClockData). BeatsBegun g.L.SymbolLines.hear g.L.SymbolLines.part (columns_in (maker_of start)) (range_with_len 0 (places_of clocks))
-    (data_of now) between after) c.loop-cycle.invariant.clocks here in
-    rw (stopped.1, split.split)
-    (beats_broken (maker_of now) g.L.SymbolLines.hear g.L.SymbolLines.part (columns_in (maker_of start)) (places_in count c.loop-cycle._cycle)
-    (range_with_len 0 count) split.rest (data_of start) (data_of now) before between after c.loop-cycle.invariant.done is)
-
-pub returns-in_err-cycle_once-clause-stays : goal.returns-in_err-cycle_once-clause-stays
-returns-in_err-cycle_once-clause-stays g c =
-    stays_both c.args.self.now c.loop-cycle.self c.cycle_once.new.self c.loop-cycle.invariant.keeps.count c.loop-cycle.invariant.stays c.cycle_once.ensures.stays
-
-pub returns-in_err-cycle_once-clause-keeps : goal.returns-in_err-cycle_once-clause-keeps
-returns-in_err-cycle_once-clause-keeps g c =
-    keeps_both (maker_of c.args.self.now) (maker_of c.loop-cycle.self) (maker_of c.cycle_once.new.self) c.loop-cycle.invariant.keeps c.cycle_once.ensures.keeps
-
-pub returns-in_err-cycle_once-clause-number : goal.returns-in_err-cycle_once-clause-number
-returns-in_err-cycle_once-clause-number g c =
-    let stopped = err_from_is_err_and c.from_residual.result c.from_residual.ensures.1 in
-    rw (stopped.1, stopped.2) c.in_err-cycle_once.ensures.number
-
-pub returns-in_err-cycle_once-clause-write : goal.returns-in_err-cycle_once-clause-write
-returns-in_err-cycle_once-clause-write g c =
-    let stopped = err_from_is_err_and c.from_residual.result c.from_residual.ensures.1 in
+    (data_of now) between after) inv.clocks here in
     rw (stopped.1, stopped.2)
-    (subst (λ (faults : ℕ). g.L.SymbolLines.faults c.cycle_once.new.out ≡ faults_stopped {T = Unit {0}} faults (Err c.in_err-cycle_once.field-0.0)) c.loop-cycle.invariant.faults
-    c.in_err-cycle_once.ensures.write)
+    (record {
+      stays = stays_both start now c.cycle_once.new.self inv.keeps.count inv.stays c.cycle_once.ensures.stays;
+      keeps = keeps_both (maker_of start) (maker_of now) (maker_of c.cycle_once.new.self) inv.keeps c.cycle_once.ensures.keeps;
+      moves = rw split.split
+          (beats_broken (maker_of now) g.L.SymbolLines.hear g.L.SymbolLines.part (columns_in (maker_of start)) (places_in count c.loop-cycle._cycle)
+          (range_with_len 0 count) split.rest (data_of start) (data_of now) (g.L.SymbolLines.heard c.args.out.now) between after inv.done is);
+      number = c.in_err-cycle_once.ensures.number;
+      write = subst (λ (faults : ℕ). g.L.SymbolLines.faults c.cycle_once.new.out ≡ faults_stopped {T = Unit {0}} faults (Err fault)) inv.faults
+          c.in_err-cycle_once.ensures.write;
+      refused = subst (λ (refusals : ℕ). RefusedStopped {T = Unit {0}} refusals (g.L.SymbolLines.refusals c.cycle_once.new.out) (Err fault)) inv.refusals
+          c.in_err-cycle_once.ensures.refused;
+    })
 
-pub returns-in_err-cycle_once-clause-refused : goal.returns-in_err-cycle_once-clause-refused
-returns-in_err-cycle_once-clause-refused g c =
-    let stopped = err_from_is_err_and c.from_residual.result c.from_residual.ensures.1 in
-    rw (stopped.1, stopped.2)
-    (subst (λ (refusals : ℕ). RefusedStopped {T = Unit {0}} refusals (g.L.SymbolLines.refusals c.cycle_once.new.out) (Err c.in_err-cycle_once.field-0.0))
-    c.loop-cycle.invariant.refusals c.in_err-cycle_once.ensures.refused)
+pub returns-clause-moves : goal.returns-clause-moves
+returns-clause-moves g c =
+    let start = c.args.self.now in
+    let all : c.loop-cycle._cycle ≡ c.args.times = omega arith in
+    subst
+    (λ (cycle : ℕ). MovesHeard (maker_of c.loop-cycle.self) g.L.SymbolLines.hear (columns_in (maker_of start))
+    (beats_at (places_in (places_of start.session.core.clocks) cycle)) (data_of start) (data_of c.loop-cycle.self) (g.L.SymbolLines.heard c.args.out.now)
+    (g.L.SymbolLines.heard c.loop-cycle.out))
+    all c.loop-cycle.invariant.done
 
 pub loop-cycle-preserved : goal.loop-cycle-preserved
 loop-cycle-preserved g c =
@@ -103,13 +97,3 @@ loop-cycle-preserved g c =
       faults = c.in_ok-cycle_once.ensures.write ∙ c.loop-cycle.invariant.faults;
       refusals = c.in_ok-cycle_once.ensures.refused ∙ c.loop-cycle.invariant.refusals;
     }
-
-pub returns-clause-moves : goal.returns-clause-moves
-returns-clause-moves g c =
-    let start = c.args.self.now in
-    let all : c.loop-cycle._cycle ≡ c.args.times = omega arith in
-    subst
-    (λ (cycle : ℕ). MovesHeard (maker_of c.loop-cycle.self) g.L.SymbolLines.hear (columns_in (maker_of start))
-    (beats_at (places_in (places_of start.session.core.clocks) cycle)) (data_of start) (data_of c.loop-cycle.self) (g.L.SymbolLines.heard c.args.out.now)
-    (g.L.SymbolLines.heard c.loop-cycle.out))
-    all c.loop-cycle.invariant.done

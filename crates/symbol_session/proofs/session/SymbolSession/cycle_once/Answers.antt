@@ -30,77 +30,59 @@ loop-place-init g c =
 pub beat-requires-clause-place : goal.beat-requires-clause-place
 beat-requires-clause-place g c = omega (arith, ap places_of c.loop-place.invariant.clocks, c.loop-place.invariant.end)
 
-pub returns-in_err-beat-clause-moves : goal.returns-in_err-beat-clause-moves
-returns-in_err-beat-clause-moves g c =
-    let stopped = err_from_is_err_and c.from_residual.result c.from_residual.ensures.1 in
+pub returns-in_err-beat : goal.returns-in_err-beat
+returns-in_err-beat g c =
     let start = c.args.self.now in
     let now = c.loop-place.self in
     let place = c.loop-place.place in
+    let inv = c.loop-place.invariant in
+    let hear = g.L.SymbolLines.hear in
+    let part = g.L.SymbolLines.part in
+    let columns = columns_in (maker_of start) in
     let count = places_of start.session.core.clocks in
-    let before = g.L.SymbolLines.heard c.args.out.now in
     let between = g.L.SymbolLines.heard c.loop-place.out in
     let after = g.L.SymbolLines.heard c.beat.new.out in
-    let is =
-    subst (λ (n : ℕ). BeatsBegun g.L.SymbolLines.hear g.L.SymbolLines.part n (place ∷ []) (data_of now) between after) c.loop-place.invariant.keeps.count
-    c.in_err-beat.ensures.moves in
-    rw (stopped.1, places-split place count (omega (arith, c.loop-place.invariant.end)))
-    (beats_broken (maker_of now) g.L.SymbolLines.hear g.L.SymbolLines.part (columns_in (maker_of start)) (range_with_len 0 place) (place ∷ [])
-    (range_with_len (place + 1) (count - (place + 1))) (data_of start) (data_of now) before between after c.loop-place.invariant.done is)
-
-pub returns-in_err-beat-clause-stays : goal.returns-in_err-beat-clause-stays
-returns-in_err-beat-clause-stays g c =
-    stays_both c.args.self.now c.loop-place.self c.beat.new.self c.loop-place.invariant.keeps.count c.loop-place.invariant.stays c.beat.ensures.stays
-
-pub returns-in_err-beat-clause-keeps : goal.returns-in_err-beat-clause-keeps
-returns-in_err-beat-clause-keeps g c =
-    keeps_both (maker_of c.args.self.now) (maker_of c.loop-place.self) (maker_of c.beat.new.self) c.loop-place.invariant.keeps c.beat.ensures.keeps
-
-pub returns-in_err-beat-clause-clocks : goal.returns-in_err-beat-clause-clocks
-returns-in_err-beat-clause-clocks g c = c.beat.ensures.clocks ∙ c.loop-place.invariant.clocks
-
-pub returns-in_err-beat-clause-number : goal.returns-in_err-beat-clause-number
-returns-in_err-beat-clause-number g c =
+    let is = subst (λ (n : ℕ). BeatsBegun hear part n (place ∷ []) (data_of now) between after) inv.keeps.count c.in_err-beat.ensures.moves in
+    let broken = beats_broken (maker_of now) hear part columns (range_with_len 0 place) (place ∷ []) (range_with_len (place + 1) (count - (place + 1)))
+    (data_of start) (data_of now) (g.L.SymbolLines.heard c.args.out.now) between after inv.done is in
     let stopped = err_from_is_err_and c.from_residual.result c.from_residual.ensures.1 in
-    rw (stopped.1, stopped.2) c.in_err-beat.ensures.number
-
-pub returns-in_err-beat-clause-write : goal.returns-in_err-beat-clause-write
-returns-in_err-beat-clause-write g c =
-    let stopped = err_from_is_err_and c.from_residual.result c.from_residual.ensures.1 in
+    let fault = c.in_err-beat.field-0.0 in
     rw (stopped.1, stopped.2)
-    (subst (λ (faults : ℕ). g.L.SymbolLines.faults c.beat.new.out ≡ faults_stopped {T = Unit {0}} faults (Err c.in_err-beat.field-0.0)) c.loop-place.invariant.faults
-    c.in_err-beat.ensures.write)
-
-pub returns-in_err-beat-clause-refused : goal.returns-in_err-beat-clause-refused
-returns-in_err-beat-clause-refused g c =
-    let stopped = err_from_is_err_and c.from_residual.result c.from_residual.ensures.1 in
-    rw (stopped.1, stopped.2)
-    (subst (λ (refusals : ℕ). RefusedStopped {T = Unit {0}} refusals (g.L.SymbolLines.refusals c.beat.new.out) (Err c.in_err-beat.field-0.0))
-    c.loop-place.invariant.refusals c.in_err-beat.ensures.refused)
+    (record {
+      stays = stays_both start now c.beat.new.self inv.keeps.count inv.stays c.beat.ensures.stays;
+      keeps = keeps_both (maker_of start) (maker_of now) (maker_of c.beat.new.self) inv.keeps c.beat.ensures.keeps;
+      fits = c.beat.ensures.fits;
+      clocks = c.beat.ensures.clocks ∙ inv.clocks;
+      moves = rw (places-split place count (omega (arith, inv.end))) broken;
+      number = c.in_err-beat.ensures.number;
+      write = subst (λ (faults : ℕ). g.L.SymbolLines.faults c.beat.new.out ≡ faults_stopped {T = Unit {0}} faults (Err fault)) inv.faults c.in_err-beat.ensures.write;
+      refused = subst (λ (refusals : ℕ). RefusedStopped {T = Unit {0}} refusals (g.L.SymbolLines.refusals c.beat.new.out) (Err fault)) inv.refusals
+          c.in_err-beat.ensures.refused;
+    })
 
 pub loop-place-preserved : goal.loop-place-preserved
 loop-place-preserved g c =
+    let hear = g.L.SymbolLines.hear in
+    let inv = c.loop-place.invariant in
+    let place = c.loop-place.place in
     let start = c.args.self.now in
     let now = c.loop-place.self in
     let next = c.beat.new.self in
-    let place = c.loop-place.place in
-    let before = g.L.SymbolLines.heard c.args.out.now in
     let between = g.L.SymbolLines.heard c.loop-place.out in
     let after = g.L.SymbolLines.heard c.beat.new.out in
-    let keeps = c.loop-place.invariant.keeps in
     let is =
-    subst (λ (n : ℕ). MovesHeard (maker_of next) g.L.SymbolLines.hear n (beats_at (place ∷ [])) (data_of now) (data_of next) between after) keeps.count
-    c.in_ok-beat.ensures.moves in
+    subst (λ (n : ℕ). MovesHeard (maker_of next) hear n (beats_at (place ∷ [])) (data_of now) (data_of next) between after) inv.keeps.count c.in_ok-beat.ensures.moves in
     record {
-      end = c.loop-place.invariant.end;
-      done = rw (places-next place)
-          (beats_then (maker_of now) (maker_of next) c.beat.ensures.keeps g.L.SymbolLines.hear (columns_in (maker_of start)) (sym keeps.count)
-          (range_with_len 0 place) (place ∷ []) (data_of start) (data_of now) (data_of next) before between after c.loop-place.invariant.done is);
-      stays = stays_both start now next keeps.count c.loop-place.invariant.stays c.beat.ensures.stays;
-      keeps = keeps_both (maker_of start) (maker_of now) (maker_of next) keeps c.beat.ensures.keeps;
+      end = inv.end;
       fits = c.beat.ensures.fits;
-      clocks = c.beat.ensures.clocks ∙ c.loop-place.invariant.clocks;
-      faults = c.in_ok-beat.ensures.write ∙ c.loop-place.invariant.faults;
-      refusals = c.in_ok-beat.ensures.refused ∙ c.loop-place.invariant.refusals;
+      clocks = c.beat.ensures.clocks ∙ inv.clocks;
+      faults = c.in_ok-beat.ensures.write ∙ inv.faults;
+      refusals = c.in_ok-beat.ensures.refused ∙ inv.refusals;
+      done = rw (places-next place)
+          (beats_then (maker_of now) (maker_of next) c.beat.ensures.keeps hear (columns_in (maker_of start)) (sym inv.keeps.count) (range_with_len 0 place)
+          (place ∷ []) (data_of start) (data_of now) (data_of next) (g.L.SymbolLines.heard c.args.out.now) between after inv.done is);
+      stays = stays_both start now next inv.keeps.count inv.stays c.beat.ensures.stays;
+      keeps = keeps_both (maker_of start) (maker_of now) (maker_of next) inv.keeps c.beat.ensures.keeps;
     }
 
 pub returns-clause-moves : goal.returns-clause-moves

@@ -1,15 +1,9 @@
 -- A step was taken in each column, beside what was missed and kept there, and a waveform line more is counted; or the stage ran out.
-use Rattle.std.proofs.Common.{◌≡◌, sym, ap, ◌∙◌, rules, arith}
-use Rattle.netlist.specs.Circuits.{CircuitData}
-use Rattle.switch_paths.specs.Graphs.{nodes}
-use Rattle.session_meaning.specs.Columns.{column_of}
+use Rattle.std.proofs.Common.{◌≡◌, rules}
 use Rattle.session_meaning.specs.Effects.{one_more}
-use Rattle.session_meaning.specs.Sessions.{IsHeldSession}
-use Rattle.symbol_stage.specs.Stages.{ServesIn, columns_on, states_in}
-use Rattle.symbol_session.specs.Sessions.{HasTrue, SymbolData, maker_of}
-use Rattle.symbol_session.proofs.DataLemmas.{goes_by, held_on, stays_on}
+use Rattle.symbol_session.proofs.DataLemmas.{some_columns, stays_on, went}
 use Rattle.symbol_session.proofs.FaultLemmas.{graph_own}
-use Rattle.symbol_session.proofs.MovedLemmas.{goes_counted, stay_leaves, step_leaves, step_on}
+use Rattle.symbol_session.proofs.MovedLemmas.{goes_counted, held_left, held_more, stay_leaves, step_leaves, step_on}
 use Rattle.symbol_session.proofs.session.SymbolSession.move_step.Goals as goal
 
 pub step_in_all-requires : goal.step_in_all-requires
@@ -17,83 +11,38 @@ step_in_all-requires c = rw (← c.self.view_is) at c.requires
 
 pub invariant_of-self : goal.invariant_of-self
 invariant_of-self c =
-    let i = c.self.inside in
-    let old : SymbolData = record { session = i.session; names = i.outside.names; kept = i.outside.kept.items; saves = i.saves.items; count = i.count; quiet = i.quiet; text = i.text.text } in
-    let always : HasTrue (maker_of old) = rw (← c.self.view_is) at c.is_well_formed.ensures.constant in
-    let held : IsHeldSession columns_on states_in ServesIn old.session = rw (← c.self.view_is) at c.is_well_formed.ensures.session in
-    let session = c.step_in_all.new.self in
-    let goes = goes_by old session c.step_in_all.ensures.columns c.step_in_all.ensures.kept always in
-    let left = step_leaves (columns_on old.session.stage) (omega (arith, held.some)) (column_of states_in old.session) (column_of states_in session) c.in-Ok.ensures.steps in
-    let counted : c.saturating_add-self-inside.result ≡ one_more old.count = search rules in
-    let (own, notes) = c.self.invariant in (
-      held_on old (record old { session = session; count = c.saturating_add-self-inside.result }) own (goes_counted old (record old { session = session }) goes c.saturating_add-self-inside.result)
-          (omega (arith, ap (λ (circuit : CircuitData). nodes circuit.graph) left.circuit)) (counted ∙ ap one_more own.counted ∙ sym left.counts),
-      notes,
-    )
+    let goes = went _ _ c.self.view_is c.step_in_all.new.self c.step_in_all.ensures.columns c.step_in_all.ensures.kept c.is_well_formed.ensures.constant in
+    let left = step_leaves _ (some_columns _ _ c.self.view_is c.is_well_formed.ensures.session) _ _ c.in-Ok.ensures.steps in
+    let counted : c.saturating_add-self-inside.result ≡ one_more c.self.inside.count = search rules in
+    (held_more _ _ c.self.invariant.0 goes c.saturating_add-self-inside.result counted left, c.self.invariant.1)
 
 pub invariant_of-self-in-Err : goal.invariant_of-self-in-Err
 invariant_of-self-in-Err c =
-    let i = c.self.inside in
-    let old : SymbolData = record { session = i.session; names = i.outside.names; kept = i.outside.kept.items; saves = i.saves.items; count = i.count; quiet = i.quiet; text = i.text.text } in
-    let always : HasTrue (maker_of old) = rw (← c.self.view_is) at c.is_well_formed.ensures.constant in
-    let held : IsHeldSession columns_on states_in ServesIn old.session = rw (← c.self.view_is) at c.is_well_formed.ensures.session in
-    let session = c.step_in_all.new.self in
-    let goes = goes_by old session c.step_in_all.ensures.columns c.step_in_all.ensures.kept always in
-    let left = stay_leaves (columns_on old.session.stage) (omega (arith, held.some)) (column_of states_in old.session) (column_of states_in session) c.in-Err.ensures.err in
-    let (own, notes) = c.self.invariant in (
-      held_on old (record old { session = session }) own goes (omega (arith, ap (λ (circuit : CircuitData). nodes circuit.graph) left.circuit))
-          (own.counted ∙ sym left.counts),
-      notes,
-    )
+    let goes = went _ _ c.self.view_is c.step_in_all.new.self c.step_in_all.ensures.columns c.step_in_all.ensures.kept c.is_well_formed.ensures.constant in
+    let left = stay_leaves _ (some_columns _ _ c.self.view_is c.is_well_formed.ensures.session) _ _ c.in-Err.ensures.err in
+    (held_left _ _ c.self.invariant.0 goes _ left c.self.invariant.0.counted, c.self.invariant.1)
 
-pub returns-in-Ok-clause-stays : goal.returns-in-Ok-clause-stays
-returns-in-Ok-clause-stays c =
-    let i = c.self.inside in
-    let old : SymbolData = record { session = i.session; names = i.outside.names; kept = i.outside.kept.items; saves = i.saves.items; count = i.count; quiet = i.quiet; text = i.text.text } in
-    let always : HasTrue (maker_of old) = rw (← c.self.view_is) at c.is_well_formed.ensures.constant in
-    let session = c.step_in_all.new.self in
-    let goes = goes_by old session c.step_in_all.ensures.columns c.step_in_all.ensures.kept always in
+pub returns-in-Ok : goal.returns-in-Ok
+returns-in-Ok c =
+    let goes = went _ _ c.self.view_is c.step_in_all.new.self c.step_in_all.ensures.columns c.step_in_all.ensures.kept c.is_well_formed.ensures.constant in
+    let counted = goes_counted _ _ goes c.saturating_add-self-inside.result in
     rw (← c.self.view_is)
-    (stays_on old (record old { session = session; count = c.saturating_add-self-inside.result }) c.self.invariant.0
-    (goes_counted old (record old { session = session }) goes c.saturating_add-self-inside.result))
+    (record {
+      steps = step_on _ _ c.self.invariant.0 counted c.in-Ok.ensures.steps;
+      stays = stays_on _ _ c.self.invariant.0 counted;
+      keeps = goes.keeps;
+      fits = c.step_in_all.ensures.fits;
+      own = tt;
+    })
 
-pub returns-in-Ok-clause-keeps : goal.returns-in-Ok-clause-keeps
-returns-in-Ok-clause-keeps c =
-    let i = c.self.inside in
-    let old : SymbolData = record { session = i.session; names = i.outside.names; kept = i.outside.kept.items; saves = i.saves.items; count = i.count; quiet = i.quiet; text = i.text.text } in
-    let always : HasTrue (maker_of old) = rw (← c.self.view_is) at c.is_well_formed.ensures.constant in
-    let session = c.step_in_all.new.self in
-    let goes = goes_by old session c.step_in_all.ensures.columns c.step_in_all.ensures.kept always in
-    rw (← c.self.view_is) goes.keeps
-
-pub returns-in-Ok-clause-steps : goal.returns-in-Ok-clause-steps
-returns-in-Ok-clause-steps c =
-    let i = c.self.inside in
-    let old : SymbolData = record { session = i.session; names = i.outside.names; kept = i.outside.kept.items; saves = i.saves.items; count = i.count; quiet = i.quiet; text = i.text.text } in
-    let always : HasTrue (maker_of old) = rw (← c.self.view_is) at c.is_well_formed.ensures.constant in
-    let session = c.step_in_all.new.self in
-    let goes = goes_by old session c.step_in_all.ensures.columns c.step_in_all.ensures.kept always in
+pub returns-in-Err : goal.returns-in-Err
+returns-in-Err c =
+    let goes = went _ _ c.self.view_is c.step_in_all.new.self c.step_in_all.ensures.columns c.step_in_all.ensures.kept c.is_well_formed.ensures.constant in
     rw (← c.self.view_is)
-    (step_on old (record old { session = session; count = c.saturating_add-self-inside.result }) c.self.invariant.0
-    (goes_counted old (record old { session = session }) goes c.saturating_add-self-inside.result) c.in-Ok.ensures.steps)
-
-pub returns-in-Err-clause-stays : goal.returns-in-Err-clause-stays
-returns-in-Err-clause-stays c =
-    let i = c.self.inside in
-    let old : SymbolData = record { session = i.session; names = i.outside.names; kept = i.outside.kept.items; saves = i.saves.items; count = i.count; quiet = i.quiet; text = i.text.text } in
-    let always : HasTrue (maker_of old) = rw (← c.self.view_is) at c.is_well_formed.ensures.constant in
-    let session = c.step_in_all.new.self in
-    let goes = goes_by old session c.step_in_all.ensures.columns c.step_in_all.ensures.kept always in
-    rw (← c.self.view_is) (stays_on old (record old { session = session }) c.self.invariant.0 goes)
-
-pub returns-in-Err-clause-keeps : goal.returns-in-Err-clause-keeps
-returns-in-Err-clause-keeps c =
-    let i = c.self.inside in
-    let old : SymbolData = record { session = i.session; names = i.outside.names; kept = i.outside.kept.items; saves = i.saves.items; count = i.count; quiet = i.quiet; text = i.text.text } in
-    let always : HasTrue (maker_of old) = rw (← c.self.view_is) at c.is_well_formed.ensures.constant in
-    let session = c.step_in_all.new.self in
-    let goes = goes_by old session c.step_in_all.ensures.columns c.step_in_all.ensures.kept always in
-    rw (← c.self.view_is) goes.keeps
-
-pub returns-in-Err-clause-own : goal.returns-in-Err-clause-own
-returns-in-Err-clause-own c = rw c.fault_at.ensures (graph_own c.args.number c.in-Err.fault)
+    (record {
+      own = rw c.fault_at.ensures (graph_own c.args.number c.in-Err.fault);
+      steps = tt;
+      fits = c.step_in_all.ensures.fits;
+      stays = stays_on _ _ c.self.invariant.0 goes;
+      keeps = goes.keeps;
+    })

@@ -30,9 +30,7 @@ note_one-requires c =
     (All-head given c.assignment_at-own.result.now (drop (c.loop-k.k + 1) list) left)
 
 pub returns-in_err-note_one-clause-notes : goal.returns-in_err-note_one-clause-notes
-returns-in_err-note_one-clause-notes c =
-    let stopped = err_from_is_err_and c.from_residual.result c.from_residual.ensures.1 in
-    rw stopped.1 tt
+returns-in_err-note_one-clause-notes c = rw (err_from_is_err_and c.from_residual.result c.from_residual.ensures.1).1 tt
 
 pub returns-in_err-note_one-clause-stays : goal.returns-in_err-note_one-clause-stays
 returns-in_err-note_one-clause-stays c =

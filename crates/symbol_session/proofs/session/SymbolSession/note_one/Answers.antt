@@ -44,42 +44,31 @@ invariant_of-self-in-Err c =
     let (own, notes) = c.self.invariant in
     (held_made old c.missed_with.new.session c.missed_with.ensures.only own, notes)
 
-pub returns-in-Ok-clause-notes : goal.returns-in-Ok-clause-notes
-returns-in-Ok-clause-notes c =
-    let i = c.self.inside in
-    let old : SymbolData = record { session = i.session; names = i.outside.names; kept = i.outside.kept.items; saves = i.saves.items; count = i.count; quiet = i.quiet; text = i.text.text } in
-    rw (← c.self.view_is, c.put_first.ensures)
-    (noted_by old c.self.invariant.0 c.missed_with.new.session c.missed_with.ensures.only c.in-Ok.made c.in-Ok.ensures.inside c.args.own.now c.first_of-before.result
-    (rw c.deref.ensures.value at c.first_of-before.ensures) c.in-Ok.ensures.holds)
-
-pub returns-in-Ok-clause-core : goal.returns-in-Ok-clause-core
-returns-in-Ok-clause-core c = rw (← c.self.view_is) c.missed_with.ensures.only.core
-
-pub returns-in-Ok-clause-stays : goal.returns-in-Ok-clause-stays
-returns-in-Ok-clause-stays c =
-    let i = c.self.inside in
-    let old : SymbolData = record { session = i.session; names = i.outside.names; kept = i.outside.kept.items; saves = i.saves.items; count = i.count; quiet = i.quiet; text = i.text.text } in
-    rw (← c.self.view_is, c.put_first.ensures)
-    (noted_stays old c.self.invariant.0 c.missed_with.new.session c.missed_with.ensures.only c.in-Ok.made c.in-Ok.ensures.inside c.args.own.now)
-
-pub returns-in-Ok-clause-keeps : goal.returns-in-Ok-clause-keeps
-returns-in-Ok-clause-keeps c =
-    let i = c.self.inside in
-    let old : SymbolData = record { session = i.session; names = i.outside.names; kept = i.outside.kept.items; saves = i.saves.items; count = i.count; quiet = i.quiet; text = i.text.text } in
-    rw (← c.self.view_is) (goes_made old c.missed_with.new.session c.missed_with.ensures.only).keeps
-
-pub returns-in-Err-clause-core : goal.returns-in-Err-clause-core
-returns-in-Err-clause-core c = rw (← c.self.view_is) c.missed_with.ensures.only.core
-
-pub returns-in-Err-clause-stays : goal.returns-in-Err-clause-stays
-returns-in-Err-clause-stays c =
+pub returns-in-Ok : goal.returns-in-Ok
+returns-in-Ok c =
     let i = c.self.inside in
     let old : SymbolData = record { session = i.session; names = i.outside.names; kept = i.outside.kept.items; saves = i.saves.items; count = i.count; quiet = i.quiet; text = i.text.text } in
     let session = c.missed_with.new.session in
-    rw (← c.self.view_is) (stays_on old (record old { session = session }) c.self.invariant.0 (goes_made old session c.missed_with.ensures.only))
+    let only = c.missed_with.ensures.only in
+    rw (← c.self.view_is, c.put_first.ensures)
+    (record {
+      notes = noted_by old c.self.invariant.0 session only c.in-Ok.made c.in-Ok.ensures.inside c.args.own.now c.first_of-before.result
+          (rw c.deref.ensures.value at c.first_of-before.ensures) c.in-Ok.ensures.holds;
+      core = only.core;
+      stays = noted_stays old c.self.invariant.0 session only c.in-Ok.made c.in-Ok.ensures.inside c.args.own.now;
+      keeps = (goes_made old session only).keeps;
+    })
 
-pub returns-in-Err-clause-keeps : goal.returns-in-Err-clause-keeps
-returns-in-Err-clause-keeps c =
+pub returns-in-Err : goal.returns-in-Err
+returns-in-Err c =
     let i = c.self.inside in
+    let only = c.missed_with.ensures.only in
     let old : SymbolData = record { session = i.session; names = i.outside.names; kept = i.outside.kept.items; saves = i.saves.items; count = i.count; quiet = i.quiet; text = i.text.text } in
-    rw (← c.self.view_is) (goes_made old c.missed_with.new.session c.missed_with.ensures.only).keeps
+    let session = c.missed_with.new.session in
+    rw (← c.self.view_is)
+    (record {
+      notes = tt;
+      core = only.core;
+      stays = stays_on old (record old { session = session }) c.self.invariant.0 (goes_made old session only);
+      keeps = (goes_made old session only).keeps;
+    })

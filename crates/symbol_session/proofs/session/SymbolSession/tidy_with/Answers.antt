@@ -23,24 +23,17 @@ invariant_of-self c =
     let new : SymbolData = record old { session = c.tidy_parts.new.session; names = outside.names; kept = outside.kept.items } in
     (tidied_session old new c.args.others.now c.tidy_parts.new.others c.tidy_parts.ensures.tidied refl refl refl refl c.self.invariant.0, c.tidy_parts.ensures.some)
 
-pub returns-clause-stays : goal.returns-clause-stays
-returns-clause-stays c =
+pub returns : goal.returns
+returns c =
     let i = c.self.inside in
     let old : SymbolData = record { session = i.session; names = i.outside.names; kept = i.outside.kept.items; saves = i.saves.items; count = i.count; quiet = i.quiet; text = i.text.text } in
     let outside = c.tidy_parts.new.outside in
     let new : SymbolData = record old { session = c.tidy_parts.new.session; names = outside.names; kept = outside.kept.items } in
-    rw (← c.self.view_is) (tidied_stays old new c.args.others.now c.tidy_parts.new.others c.tidy_parts.ensures.tidied refl refl refl refl c.self.invariant.0)
-
-pub returns-clause-same : goal.returns-clause-same
-returns-clause-same c =
-    let i = c.self.inside in
-    let old : SymbolData = record { session = i.session; names = i.outside.names; kept = i.outside.kept.items; saves = i.saves.items; count = i.count; quiet = i.quiet; text = i.text.text } in
-    let outside = c.tidy_parts.new.outside in
-    let new : SymbolData = record old { session = c.tidy_parts.new.session; names = outside.names; kept = outside.kept.items } in
-    rw (← c.self.view_is) (tidied_same old new c.args.others.now c.tidy_parts.new.others c.tidy_parts.ensures.tidied refl refl refl refl c.self.invariant.0)
-
-pub returns-clause-moved : goal.returns-clause-moved
-returns-clause-moved c =
+    let others = c.tidy_parts.new.others in
+    let tidied = c.tidy_parts.ensures.tidied in
     rw (← c.self.view_is)
-    (moved_stand c.self.inside.session.stage.machine.maker c.tidy_parts.new.session.stage.machine.maker c.args.others.now c.tidy_parts.new.others
-    c.tidy_parts.ensures.tidied.others_moved)
+    (record {
+      stays = tidied_stays old new c.args.others.now others tidied refl refl refl refl c.self.invariant.0;
+      same = tidied_same old new c.args.others.now others tidied refl refl refl refl c.self.invariant.0;
+      moved = moved_stand i.session.stage.machine.maker c.tidy_parts.new.session.stage.machine.maker c.args.others.now others tidied.others_moved;
+    })

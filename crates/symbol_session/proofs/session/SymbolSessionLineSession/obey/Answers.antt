@@ -10,33 +10,18 @@ use Rattle.symbol_session.proofs.session.SymbolSessionLineSession.obey.Goals as 
 
 -- ---- a fault ended it
 
-pub returns-in_err-turn-clause-valuations : goal.returns-in_err-turn-clause-valuations
-returns-in_err-turn-clause-valuations g c = valuations_stay c.args.self.now c.obey_line.new.self c.obey_line.ensures.quiet c.obey_line.ensures.text
-
-pub returns-in_err-turn-clause-turn : goal.returns-in_err-turn-clause-turn
-returns-in_err-turn-clause-turn g c =
+pub returns-in_err-turn : goal.returns-in_err-turn
+returns-in_err-turn g c =
     let stopped = err_from_is_err_and c.from_residual.result c.from_residual.ensures.1 in
-    λ rest serves. rw stopped.1 (c.in_err-turn.ensures.turn rest serves)
-
-pub returns-in_err-turn-clause-serves : goal.returns-in_err-turn-clause-serves
-returns-in_err-turn-clause-serves g c =
-    let stopped = err_from_is_err_and c.from_residual.result c.from_residual.ensures.1 in
-    λ rest serves accepted. absurd (let e : Err stopped.0 ≡ Ok Accepted = sym stopped.1 ∙ accepted in cc)
-
-pub returns-in_err-turn-clause-number : goal.returns-in_err-turn-clause-number
-returns-in_err-turn-clause-number g c =
-    let stopped = err_from_is_err_and c.from_residual.result c.from_residual.ensures.1 in
-    rw (stopped.1, stopped.2) c.in_err-turn.ensures.number
-
-pub returns-in_err-turn-clause-write : goal.returns-in_err-turn-clause-write
-returns-in_err-turn-clause-write g c =
-    let stopped = err_from_is_err_and c.from_residual.result c.from_residual.ensures.1 in
-    rw (stopped.1, stopped.2) c.in_err-turn.ensures.write
-
-pub returns-in_err-turn-clause-refused : goal.returns-in_err-turn-clause-refused
-returns-in_err-turn-clause-refused g c =
-    let stopped = err_from_is_err_and c.from_residual.result c.from_residual.ensures.1 in
-    rw (stopped.1, stopped.2) c.in_err-turn.ensures.refused
+    record {
+      quiet = c.obey_line.ensures.quiet;
+      valuations = valuations_stay c.args.self.now c.obey_line.new.self c.obey_line.ensures.quiet c.obey_line.ensures.text;
+      turn = λ rest serves. rw stopped.1 (c.in_err-turn.ensures.turn rest serves);
+      serves = λ rest serves accepted. absurd (let e : Err stopped.0 ≡ Ok Accepted = sym stopped.1 ∙ accepted in cc);
+      number = rw (stopped.1, stopped.2) c.in_err-turn.ensures.number;
+      write = rw (stopped.1, stopped.2) c.in_err-turn.ensures.write;
+      refused = rw (stopped.1, stopped.2) c.in_err-turn.ensures.refused;
+    }
 
 -- ---- what became of it
 
