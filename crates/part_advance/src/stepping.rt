@@ -27,7 +27,7 @@ use wide_groups::{calm, evaluate_awake, touched_is_listed, write};
 pub fn advance<L: Ledger>(
     joining: bool,
     parts: &[MachinePart],
-    dense: &DenseParts,
+    dense: &mut DenseParts,
     readers: &ReaderLists,
     state: &mut [Tern],
     agenda: &mut Agenda,
@@ -36,9 +36,10 @@ pub fn advance<L: Ledger>(
     noted: &mut Vec<Change>,
     steps: &mut Steps<L>,
 ) -> bool
-    requires dense { AreDense parts.now dense.now }
+    requires dense { AreDense parts.now dense.old }
     requires wide { HoldsWide parts.now state.old (vec_capacity noted.old) wide.old }
     requires runnable { IsRunnable parts.now agenda.old.marks agenda.old.waiting (length state.old) readers.now (rooms workspace.old) }
+    ensures dense { AreDense parts.now dense.new }
     ensures moves { MovesIn joining parts.now agenda.old.marks wide.old state.old state.new }
     ensures retouches { RetouchesIn joining wide.old wide.new state.old state.new }
     ensures holds { HoldsWide parts.now state.new (vec_capacity noted.new) wide.new }

@@ -1,6 +1,6 @@
 -- Seats tell the codes and the maps of parts: they still do where codes and maps come behind the others, where a seat comes behind the others,
 -- and where seats are put in slots. Texts of one number share a code.
-use Rattle.std.proofs.Common.{◌≡◌, ◌≢◌, ℕ, zero, suc, ◌+◌, ◌<◌, ◌≤◌, inl, inr, List, [], ◌∷◌, ◌++◌, length, map, take, drop, Option, Some, None, Vec, Global, refl, sym, ap, subst, ◌∙◌, append_assoc, append-nil, arith}
+use Rattle.std.proofs.Common.{◌≡◌, ◌≢◌, ℕ, zero, suc, ◌+◌, ◌<◌, ◌≤◌, inl, inr, List, [], ◌∷◌, ◌++◌, length, map, take, drop, Option, Some, None, Vec, Global, All, refl, sym, ap, subst, ◌∙◌, append_assoc, append-nil, arith}
 use Rattle.std.specs.Prelude.{slice_get, slice_index_or, slice_set, replicate}
 use Rattle.std.proofs.lemmas.Bool.{cases_lt, cases_eq}
 use Rattle.std.proofs.lemmas.List.{length-append, length-drop, length-set, length_push, take-append-le, drop-append-le, take_at, take_all, drop_at}
@@ -9,23 +9,26 @@ use Rattle.std.specs.declared.rc.Rc.{Rc}
 use Rattle.straight_code.specs.Code.{CodeData}
 use Rattle.list_facts.proofs.PlaceLemmas.{slice_get-grown, slice_get-last, pushed_at}
 use Rattle.part_words.specs.Noting.{map_at}
+use Rattle.part_words.specs.declared.last_runs.LastRuns.{LastRuns}
+use Rattle.part_words.specs.declared.last_runs.KnownRuns.{KnownRuns}
 use Rattle.machine_parts.specs.declared.part.MachinePart.{MachinePart}
 use Rattle.part_steps.specs.declared.dense.Seat.{Seat}
 use Rattle.part_steps.specs.declared.dense.DenseParts.{DenseParts}
 use Rattle.machine_parts.specs.Marking.{AreOnce}
 use Rattle.machine_parts.specs.Putting.{Puts}
 use Rattle.part_steps.specs.Dense.{HasInputs, HaveCodes, IsCodeAt, IsMapAt, ArePlaces, IsPartNumbered, IsPlace, IsSeatOf, AreSeatsOf, AreDense, BeginsWith, Grows}
+use Rattle.part_steps.specs.Known.{Knows, KeepsKnown}
 use Rattle.machine_parts.proofs.NumberLists.{one_or_none}
 
 -- a seat tells the code and the map of the part with its number
 pub place_of_part : (parts : List MachinePart) (dense : DenseParts) (k : ℕ) (part : MachinePart) (seat : Seat) → AreDense parts dense →
     slice_get parts k ≡ Some part → slice_get dense.seats.items k ≡ Some (Some seat) → IsPlace part dense.codes.items dense.nodes.items seat
-place_of_part parts dense k part seat of part_is seat_is = (of.each k part (Some seat) part_is seat_is).some seat refl
+place_of_part parts dense k part seat of part_is seat_is = (of.seats.each k part (Some seat) part_is seat_is).some seat refl
 
 -- a part without a seat has no code
 pub no_place_of_part : (parts : List MachinePart) (dense : DenseParts) (k : ℕ) (part : MachinePart) → AreDense parts dense →
     slice_get parts k ≡ Some part → slice_get dense.seats.items k ≡ Some None → part.code ≡ None
-no_place_of_part parts dense k part of part_is seat_is = (of.each k part None part_is seat_is).none refl
+no_place_of_part parts dense k part of part_is seat_is = (of.seats.each k part None part_is seat_is).none refl
 
 module _ {X : Type 0} where
   pub BeginsWith-then : (xs ys zs : List X) → BeginsWith xs ys → BeginsWith ys zs → BeginsWith xs zs
@@ -82,30 +85,57 @@ map_stays front nodes at count begins inside =
     ∙ (ap (take count) (drop-append-le at front begins.more (omega (arith, inside)))
     ∙ take-append-le count (drop at front) begins.more (omega (arith, inside, length-drop at front)))
 
+-- what is known of runs is as it was
+known_same : (old new : KnownRuns) → new ≡ old → KeepsKnown old.codes.items new.codes.items
+known_same old new same codes knows = subst (λ (one : KnownRuns). Knows codes one.codes.items) (sym same) knows
+
+-- what all of a list are, each of them is
+each_is : {X : Type 0} (IsSo : X → Type 0) (list : List X) (k : ℕ) (x : X) → All IsSo list → slice_get list k ≡ Some x → IsSo x
+each_is IsSo list k x all at = subst IsSo (get_or_from_slice_get list k x x at) (all k x (slice_get_within list k x at))
+
+-- nothing is known
+pub known_none : (codes : List (Rc CodeData Global)) → Knows codes []
+known_none codes k runs place is ran = absurd (none-some runs is)
+
 -- nothing came
-pub grows_same : (old new : DenseParts) → new.codes.items ≡ old.codes.items → new.nodes.items ≡ old.nodes.items → new.seats ≡ old.seats → Grows old new
-grows_same old new codes nodes seats = record {
+pub grows_same : (old new : DenseParts) → new.codes.items ≡ old.codes.items → new.nodes.items ≡ old.nodes.items → new.seats ≡ old.seats →
+    new.known ≡ old.known → Grows old new
+grows_same old new codes nodes seats known = record {
   codes = record { more = []; is = codes ∙ sym (append-nil old.codes.items) };
   nodes = record { more = []; is = nodes ∙ sym (append-nil old.nodes.items) };
   seats = seats;
+  known = known_same old.known new.known known;
 }
 
 -- one code came
 pub grows_code : (old new : DenseParts) (code : Rc CodeData Global) → new.codes.items ≡ old.codes.items ++ code ∷ [] →
-    new.nodes.items ≡ old.nodes.items → new.seats ≡ old.seats → Grows old new
-grows_code old new code codes nodes seats = record {
+    new.nodes.items ≡ old.nodes.items → new.seats ≡ old.seats → new.known ≡ old.known → Grows old new
+grows_code old new code codes nodes seats known = record {
   codes = record { more = code ∷ []; is = codes };
   nodes = record { more = []; is = nodes ∙ sym (append-nil old.nodes.items) };
   seats = seats;
+  known = known_same old.known new.known known;
+}
+
+-- room for runs came, and no code ran in it yet
+pub grows_known : (old new : DenseParts) → new.codes.items ≡ old.codes.items → new.nodes.items ≡ old.nodes.items →
+    new.seats ≡ old.seats → All (λ runs. runs.place ≡ None) new.known.codes.items → Grows old new
+grows_known old new codes nodes seats fresh = record {
+  codes = record { more = []; is = codes ∙ sym (append-nil old.codes.items) };
+  nodes = record { more = []; is = nodes ∙ sym (append-nil old.nodes.items) };
+  seats = seats;
+  known = λ all knows k runs place is ran.
+      absurd (none-some place (sym (each_is (λ (one : LastRuns). one.place ≡ None) new.known.codes.items k runs fresh is) ∙ ran));
 }
 
 -- nodes came
 pub grows_nodes : (old new : DenseParts) (these : List ℕ) → new.codes ≡ old.codes → new.nodes.items ≡ old.nodes.items ++ these →
-    new.seats ≡ old.seats → Grows old new
-grows_nodes old new these codes nodes seats = record {
+    new.seats ≡ old.seats → new.known ≡ old.known → Grows old new
+grows_nodes old new these codes nodes seats known = record {
   codes = record { more = []; is = ap (λ (list : Vec (Rc CodeData Global) Global). list.items) codes ∙ sym (append-nil old.codes.items) };
   nodes = record { more = these; is = nodes };
   seats = seats;
+  known = known_same old.known new.known known;
 }
 
 pub grows_then : (one two three : DenseParts) → Grows one two → Grows two three → Grows one three
@@ -113,7 +143,17 @@ grows_then one two three first second = record {
   codes = BeginsWith-then one.codes.items two.codes.items three.codes.items first.codes second.codes;
   nodes = BeginsWith-then one.nodes.items two.nodes.items three.nodes.items first.nodes second.nodes;
   seats = second.seats ∙ first.seats;
+  known = λ codes knows. second.known codes (first.known codes knows);
 }
+
+-- what is known of runs stays true where codes came behind the others
+Knows-more : (front codes : List (Rc CodeData Global)) (known : List LastRuns) → BeginsWith front codes → Knows front known → Knows codes known
+Knows-more front codes known begins knows k runs place is ran =
+    let at = knows k runs place is ran in
+    record { code = at.code; there = stands_still front codes place at.code begins at.there; ran = at.ran }
+
+pub Knows-grown : (old new : DenseParts) → Grows old new → Knows old.codes.items old.known.codes.items → Knows new.codes.items new.known.codes.items
+Knows-grown old new grows knows = grows.known new.codes.items (Knows-more old.codes.items new.codes.items old.known.codes.items grows.codes knows)
 
 -- codes stand where they stood
 pub IsCodeAt-more : (front codes : List (Rc CodeData Global)) (place : ℕ) (code : CodeData) → BeginsWith front codes → IsCodeAt front place code →
@@ -241,20 +281,26 @@ AreSeatsOf-more parts old new seats grows of = record {
 
 -- all seats say the same after more codes and maps came
 pub dense_more : (parts : List MachinePart) (old new : DenseParts) → Grows old new → AreDense parts old → AreDense parts new
-dense_more parts old new grows of =
-    subst (λ (list : Vec (Option Seat) Global). AreSeatsOf parts new.codes.items new.nodes.items list.items) (sym grows.seats)
-    (AreSeatsOf-more parts old new old.seats.items grows of)
+dense_more parts old new grows of = record {
+  seats = subst (λ (list : Vec (Option Seat) Global). AreSeatsOf parts new.codes.items new.nodes.items list.items) (sym grows.seats)
+      (AreSeatsOf-more parts old new old.seats.items grows of.seats);
+  known = Knows-grown old new grows of.known;
+}
 
 -- and after those that came behind the others have gone again
 pub dense_again : (old mid new : DenseParts) (codes_count nodes_count : ℕ) → Grows old mid → codes_count ≡ length old.codes.items →
     nodes_count ≡ length old.nodes.items → new.codes.items ≡ take codes_count mid.codes.items → new.nodes.items ≡ take nodes_count mid.nodes.items →
-    new.seats ≡ mid.seats → (parts : List MachinePart) → AreDense parts old → AreDense parts new
-dense_again old mid new codes_count nodes_count grows codes_counted nodes_counted codes nodes seats parts of =
-    subst (λ list. AreSeatsOf parts list new.nodes.items new.seats.items)
-    (sym (codes ∙ front_of old.codes.items mid.codes.items codes_count grows.codes codes_counted))
-    (subst (λ list. AreSeatsOf parts old.codes.items list new.seats.items)
-    (sym (nodes ∙ front_of old.nodes.items mid.nodes.items nodes_count grows.nodes nodes_counted))
-    (subst (λ (list : Vec (Option Seat) Global). AreSeatsOf parts old.codes.items old.nodes.items list.items) (sym (seats ∙ grows.seats)) of))
+    new.seats ≡ mid.seats → new.known ≡ mid.known → (parts : List MachinePart) → AreDense parts old → AreDense parts new
+dense_again old mid new codes_count nodes_count grows codes_counted nodes_counted codes nodes seats known parts of =
+    let codes_are : new.codes.items ≡ old.codes.items = codes ∙ front_of old.codes.items mid.codes.items codes_count grows.codes codes_counted in
+    record {
+      seats = subst (λ list. AreSeatsOf parts list new.nodes.items new.seats.items) (sym codes_are)
+          (subst (λ list. AreSeatsOf parts old.codes.items list new.seats.items)
+          (sym (nodes ∙ front_of old.nodes.items mid.nodes.items nodes_count grows.nodes nodes_counted))
+          (subst (λ (list : Vec (Option Seat) Global). AreSeatsOf parts old.codes.items old.nodes.items list.items) (sym (seats ∙ grows.seats)) of.seats));
+      known = subst (λ list. Knows list new.known.codes.items) (sym codes_are)
+          (subst (λ (one : KnownRuns). Knows old.codes.items one.codes.items) (sym known) (grows.known old.codes.items of.known));
+    }
 
 -- no part has a seat yet
 pub no_seats : (codes : List (Rc CodeData Global)) (nodes : List ℕ) → AreSeatsOf [] codes nodes []
@@ -336,12 +382,16 @@ AreSeatsOf-put slots codes nodes fresh old new seats before after once fresh_of 
 
 -- seats were put in slots: whatever parts were put there, they are those of the parts
 pub seats_put : (slots : List ℕ) (before after : DenseParts) (seats : List (Option Seat)) → after.codes ≡ before.codes → after.nodes ≡ before.nodes →
-    Puts slots seats before.seats.items after.seats.items → (fresh old new : List MachinePart) → AreOnce slots →
+    after.known ≡ before.known → Puts slots seats before.seats.items after.seats.items → (fresh old new : List MachinePart) → AreOnce slots →
     AreSeatsOf fresh before.codes.items before.nodes.items seats → Puts slots fresh old new → AreDense old before → AreDense new after
-seats_put slots before after seats codes nodes seat_puts fresh old new once fresh_of puts old_of =
-    subst (λ (list : Vec (Rc CodeData Global) Global). AreSeatsOf new list.items after.nodes.items after.seats.items) (sym codes)
-    (subst (λ (list : Vec ℕ Global). AreSeatsOf new before.codes.items list.items after.seats.items) (sym nodes)
-    (AreSeatsOf-put slots before.codes.items before.nodes.items fresh old new seats before.seats.items after.seats.items once fresh_of old_of puts seat_puts))
+seats_put slots before after seats codes nodes known seat_puts fresh old new once fresh_of puts old_of = record {
+  seats = subst (λ (list : Vec (Rc CodeData Global) Global). AreSeatsOf new list.items after.nodes.items after.seats.items) (sym codes)
+      (subst (λ (list : Vec ℕ Global). AreSeatsOf new before.codes.items list.items after.seats.items) (sym nodes)
+      (AreSeatsOf-put slots before.codes.items before.nodes.items fresh old new seats before.seats.items after.seats.items once fresh_of old_of.seats puts
+      seat_puts));
+  known = subst (λ (list : Vec (Rc CodeData Global) Global). Knows list.items after.known.codes.items) (sym codes)
+      (subst (λ (one : KnownRuns). Knows before.codes.items one.codes.items) (sym known) old_of.known);
+}
 
 -- parts of texts that have codes by their numbers
 pub numbered_part : (numbers : List (Option ℕ)) (parts : List MachinePart) (codes : HaveCodes numbers parts) (k : ℕ) (part : MachinePart) (number : Option ℕ) →

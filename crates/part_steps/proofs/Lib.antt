@@ -2,6 +2,7 @@ pub mod WaitingLemmas
 pub mod BundleLemmas
 pub mod CodesLemmas
 pub mod EvaluationLemmas
+pub mod KnownLemmas
 pub mod TakingLemmas
 pub mod ReadersLemmas
 pub mod DenseLemmas

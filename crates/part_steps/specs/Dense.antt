@@ -7,6 +7,7 @@ use Rattle.part_words.specs.Noting.{map_at}
 use Rattle.machine_parts.specs.declared.part.MachinePart.{MachinePart}
 use Rattle.part_steps.specs.declared.dense.Seat.{Seat}
 use Rattle.part_steps.specs.declared.dense.DenseParts.{DenseParts}
+use Rattle.part_steps.specs.Known.{Knows, KeepsKnown}
 
 -- the part's code, if it has one, has an input for each node of the part's map
 abbrev pub HasInputs : MachinePart → Type 0
@@ -63,16 +64,18 @@ pub record AreSeatsOf (parts : List MachinePart) (codes : List (Rc CodeData Glob
       IsSeatOf part codes nodes seat
 
 -- what a step reads of these parts
-abbrev pub AreDense : List MachinePart → DenseParts → Type 0
-AreDense parts dense = AreSeatsOf parts dense.codes.items dense.nodes.items dense.seats.items
+pub record AreDense (parts : List MachinePart) (dense : DenseParts) : Type 0 where
+  pub seats : AreSeatsOf parts dense.codes.items dense.nodes.items dense.seats.items
+  pub known : Knows dense.codes.items dense.known.codes.items
 
 -- more came behind what was there
 pub record BeginsWith {X : Type 0} (front list : List X) : Type 0 where
   pub more : List X
   pub is : list ≡ front ++ more
 
--- codes and nodes came behind the others, and all seats stayed
+-- codes and nodes came behind the others, all seats stayed, and what is known of runs is still true
 pub record Grows (old new : DenseParts) : Type 0 where
   pub codes : BeginsWith old.codes.items new.codes.items
   pub nodes : BeginsWith old.nodes.items new.nodes.items
   pub seats : new.seats ≡ old.seats
+  pub known : KeepsKnown old.known.codes.items new.known.codes.items

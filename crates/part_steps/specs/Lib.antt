@@ -1,3 +1,4 @@
+pub mod Known
 pub mod Dense
 pub mod Waiting
 pub mod Together

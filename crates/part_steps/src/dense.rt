@@ -6,12 +6,17 @@ ghost use Rattle.machine_parts.specs.declared.part.MachinePart.{MachinePart};
 ghost use Rattle.machine_parts.specs.Words.{Puts, AreOnce};
 ghost use Rattle.part_steps.specs.Dense.{AreDense, AreSeatsOf, IsSeatOf, HasInputs, ArePlaces, Grows, IsCodeAt, IsMapAt, IsNumbered, IsPartNumbered};
 
+use crate::making::count_values;
 use crate::putting::put_in;
 use machine_parts::MachinePart;
+use part_words::{KnownRuns, is_large};
 use std::alloc::{AllocError, Global};
 use std::rc::Rc;
 use straight_code::{Code, Instruction, Output};
 use ternary::NoMemory;
+
+// The runs of code that reads more values aren't kept.
+const MOST_VALUES: usize = 1 << 16;
 
 /// What a step reads of a part that has code: where its code stands among the codes, and where its map begins among
 /// the nodes.
@@ -30,12 +35,16 @@ pub struct Seat {
 ///
 /// The map of a part that lost its code stays if it is, and so does its code. Whoever holds a machine lets go of
 /// all of it where most of its parts are left over, so that there are no more than so many of these.
+///
+/// `known` has the last runs of large codes of these, if there are any: a step looks up what they gave before. That stays
+/// true, since codes only come behind the others.
 #[derive(Drop)]
 pub struct DenseParts {
     pub codes: Vec<Rc<Code>>,
     pub nodes: Vec<u32>,
     pub seats: Vec<Option<Seat>>,
     pub places: Vec<Option<u32>>,
+    pub known: KnownRuns,
 }
 
 impl DenseParts {
@@ -108,8 +117,20 @@ impl DenseParts {
     }
 
     // Puts code behind the others, and answers its place.
-    #[tactic(auto, using(crate::proofs::DenseLemmas::grows_same, crate::proofs::DenseLemmas::grows_code, crate::proofs::DenseLemmas::code_last))]
+    #[tactic(auto, using(crate::proofs::DenseLemmas::grows_then))]
     fn add_code(&mut self, code: &Rc<Code>) -> Result<u32, NoMemory>
+        ensures more { Grows self.old self.new }
+        ensures there { IfOk result (λ place. IsCodeAt self.new.codes.items place code.now.value) }
+        ensures places { self.new.places ≡ self.old.places }
+    {
+        let place = self.push_code(code)?;
+        self.make_known(code);
+        Ok(place)
+    }
+
+    // Puts code behind the others, and answers its place. No room is taken for its runs.
+    #[tactic(auto, using(crate::proofs::DenseLemmas::grows_same, crate::proofs::DenseLemmas::grows_code, crate::proofs::DenseLemmas::code_last))]
+    fn push_code(&mut self, code: &Rc<Code>) -> Result<u32, NoMemory>
         ensures more { Grows self.old self.new }
         ensures there { IfOk result (λ place. IsCodeAt self.new.codes.items place code.now.value) }
         ensures places { self.new.places ≡ self.old.places }
@@ -118,6 +139,34 @@ impl DenseParts {
         let shared = code.clone()?;
         self.codes.push(shared).map_err(AllocError::from)?;
         Ok(place)
+    }
+
+    // There is room for the last runs of this code, if it is large, and of others. Out of memory there is as much as before.
+    #[tactic(auto, using(crate::proofs::DenseLemmas::grows_same))]
+    fn make_known(&mut self, code: &Code)
+        ensures more { Grows self.old self.new }
+        ensures codes { self.new.codes ≡ self.old.codes }
+        ensures places { self.new.places ≡ self.old.places }
+    {
+        let Some(values) = values_known(code) else {
+            return;
+        };
+        if self.known.values() < values {
+            self.widen_known(values);
+        }
+    }
+
+    // There is room for the last runs of codes that read so many values each, unless memory is out. None ran yet.
+    #[tactic(auto, using(crate::proofs::DenseLemmas::grows_same))]
+    fn widen_known(&mut self, values: usize)
+        ensures more { Grows self.old self.new }
+        ensures codes { self.new.codes ≡ self.old.codes }
+        ensures places { self.new.places ≡ self.old.places }
+    {
+        let alloc = *self.codes.allocator();
+        if let Ok(known) = KnownRuns::with_room(alloc, values) {
+            self.known = known;
+        }
     }
 
     // Puts a map behind the others, and answers where it begins.
@@ -160,7 +209,7 @@ impl DenseParts {
 
     /// The seats of these parts, whose texts have these numbers. Their maps come behind the others, and so do codes that
     /// no part had so far. Out of memory none came.
-    #[tactic(auto, using(crate::proofs::DenseLemmas::dense_more, crate::proofs::DenseLemmas::dense_again))]
+    #[tactic(auto, using(crate::proofs::DenseLemmas::dense_again))]
     pub fn seats_for(
         &mut self,
         alloc: Global,
@@ -244,6 +293,7 @@ impl DenseParts {
         ensures codes { self.new.codes ≡ self.old.codes }
         ensures nodes { self.new.nodes ≡ self.old.nodes }
         ensures seats { self.new.seats ≡ self.old.seats }
+        ensures known { self.new.known ≡ self.old.known }
         ensures room { OnOk result (number < length self.new.places.items) }
     {
         while self.places.len() <= number {
@@ -270,6 +320,17 @@ impl DenseParts {
             → Puts slots.now fresh old new → AreDense old self.old → AreDense new self.new }
     {
         put_in(slots, seats, &mut self.seats);
+    }
+}
+
+// How many values code reads whose last runs are looked up.
+fn values_known(code: &Code) -> Option<usize> {
+    if !is_large(code) {
+        return None;
+    }
+    match count_values(code) {
+        Some(values) if values <= MOST_VALUES => Some(values),
+        _ => None,
     }
 }
 

@@ -7,12 +7,14 @@ ghost use Rattle.part_steps.specs.Workspaces.{rooms};
 ghost use Rattle.part_steps.specs.Waiting.{Waits, IsEmptyFrom, HasRoom, cleared_at, waiting_sum};
 ghost use Rattle.part_steps.specs.Together.{CanRun, RunsSome, TakesIn, outputs_at, instructions_at};
 ghost use Rattle.part_steps.specs.Dense.{AreDense};
+ghost use Rattle.part_steps.specs.Known.{Knows};
 
 use crate::agenda::Agenda;
 use crate::bundles::{Bundles, slot_for};
 use crate::dense::{DenseParts, Seat};
 use machine_parts::MachinePart;
-use part_words::{Change, run_together};
+use part_words::{Change, KnownRuns, run_known};
+use std::mem;
 use std::sync::ledger::Ledger;
 use ternary::{Steps, Tern};
 
@@ -31,24 +33,25 @@ pub struct Workspace {
 
 /// Evaluates all marked parts that have code, and clears their marks. No state is written.
 ///
-/// Parts of one code are run together. A part is read through its seat alone: what stands with the part itself is
-/// far apart in memory.
+/// Parts of one code are run together, and the last runs of large code are looked up. A part is read through its seat
+/// alone: what stands with the part itself is far apart in memory.
 pub fn evaluate_all<L: Ledger>(
     joining: bool,
     parts: &[MachinePart],
-    dense: &DenseParts,
+    dense: &mut DenseParts,
     state: &[Tern],
     agenda: &mut Agenda,
     workspace: &mut Workspace,
     steps: &mut Steps<L>,
 )
-    requires dense { AreDense parts.now dense.now }
+    requires dense { AreDense parts.now dense.old }
     requires counted { length agenda.old.marks ≡ length parts.now }
     requires seated { All (IsSeated (length state.now) (rooms workspace.old)) parts.now }
     requires changes { workspace.old.changes.items ≡ [] }
     requires done { workspace.old.done.items ≡ [] }
     requires changes_room { marked_sum members_of parts.now agenda.old.marks ≤ vec_capacity workspace.old.changes }
     requires done_room { count_marked agenda.old.marks ≤ vec_capacity workspace.old.done }
+    ensures dense { AreDense parts.now dense.new }
     ensures evaluated { Evaluated joining parts.now state.now agenda.old.waiting agenda.old.marks agenda.new.marks workspace.new.changes.items workspace.new.done.items }
     ensures rest { (k : ℕ) → IsMarked agenda.new.marks k → IsMarked agenda.old.waiting k }
     ensures count { length agenda.new.marks ≡ length agenda.old.marks }
@@ -56,14 +59,17 @@ pub fn evaluate_all<L: Ledger>(
     ensures rooms { rooms workspace.new ≡ rooms workspace.old }
     ensures steps { steps.new ≤ steps.old + marked_sum instructions_of parts.now agenda.old.marks }
 {
+    let none = KnownRuns::none(*dense.codes.allocator());
+    let mut known = mem::replace(&mut dense.known, none);
     workspace.bundles.clear_all();
     while let Some(k) = agenda.pop() {
         workspace.done.push_reserved(k);
         if let Some(seat) = dense.seats[k] {
-            take_in(joining, dense, state, seat, workspace, steps);
+            take_in(joining, dense, state, seat, &mut known, workspace, steps);
         }
     }
-    run_all(joining, dense, state, workspace, steps);
+    run_all(joining, dense, state, &mut known, workspace, steps);
+    dense.known = known;
 }
 
 // The part with this seat waits to be run. If it can't, those in its slot are run first.
@@ -72,11 +78,13 @@ fn take_in<L: Ledger>(
     dense: &DenseParts,
     state: &[Tern],
     seat: Seat,
+    known: &mut KnownRuns,
     workspace: &mut Workspace,
     steps: &mut Steps<L>,
 )
     requires run { CanRun (length state.now) (rooms workspace.old) dense.now.codes.items dense.now.nodes.items seat }
     requires all { (one : Seat) → Waits workspace.old.bundles one → CanRun (length state.now) (rooms workspace.old) dense.now.codes.items dense.now.nodes.items one }
+    requires known { Knows dense.now.codes.items known.old.codes.items }
     requires room { vec_len workspace.old.changes + waiting_sum (outputs_at dense.now.codes.items) workspace.old.bundles
         ≤ vec_capacity workspace.old.changes }
     ensures takes { TakesIn joining dense.now.codes.items dense.now.nodes.items state.now seat workspace.old.bundles workspace.new.bundles
@@ -86,10 +94,11 @@ fn take_in<L: Ledger>(
         + outputs_at dense.now.codes.items seat.code }
     ensures steps { steps.new + waiting_sum (instructions_at dense.now.codes.items) workspace.new.bundles
         ≤ steps.old + waiting_sum (instructions_at dense.now.codes.items) workspace.old.bundles + instructions_at dense.now.codes.items seat.code }
+    ensures known { Knows dense.now.codes.items known.new.codes.items }
     ensures done { workspace.new.done ≡ workspace.old.done }
     ensures rooms { rooms workspace.new ≡ rooms workspace.old }
 {
-    make_room(joining, dense, state, seat.code, workspace, steps);
+    make_room(joining, dense, state, seat.code, known, workspace, steps);
     workspace.bundles.add(seat);
 }
 
@@ -99,10 +108,12 @@ fn make_room<L: Ledger>(
     dense: &DenseParts,
     state: &[Tern],
     code: u32,
+    known: &mut KnownRuns,
     workspace: &mut Workspace,
     steps: &mut Steps<L>,
 )
     requires all { (one : Seat) → Waits workspace.old.bundles one → CanRun (length state.now) (rooms workspace.old) dense.now.codes.items dense.now.nodes.items one }
+    requires known { Knows dense.now.codes.items known.old.codes.items }
     requires room { vec_len workspace.old.changes + waiting_sum (outputs_at dense.now.codes.items) workspace.old.bundles
         ≤ vec_capacity workspace.old.changes }
     ensures has_room { HasRoom workspace.new.bundles code }
@@ -113,13 +124,22 @@ fn make_room<L: Ledger>(
         ≤ vec_len workspace.old.changes + waiting_sum (outputs_at dense.now.codes.items) workspace.old.bundles }
     ensures steps { steps.new + waiting_sum (instructions_at dense.now.codes.items) workspace.new.bundles
         ≤ steps.old + waiting_sum (instructions_at dense.now.codes.items) workspace.old.bundles }
+    ensures known { Knows dense.now.codes.items known.new.codes.items }
     ensures done { workspace.new.done ≡ workspace.old.done }
     ensures rooms { rooms workspace.new ≡ rooms workspace.old }
 {
     if workspace.bundles.has_room(code) {
         return;
     }
-    run_slot(joining, dense, state, slot_for(code), workspace, steps);
+    run_slot(
+        joining,
+        dense,
+        state,
+        slot_for(code),
+        known,
+        workspace,
+        steps,
+    );
 }
 
 // Runs all parts that wait.
@@ -127,22 +147,25 @@ fn run_all<L: Ledger>(
     joining: bool,
     dense: &DenseParts,
     state: &[Tern],
+    known: &mut KnownRuns,
     workspace: &mut Workspace,
     steps: &mut Steps<L>,
 )
     requires all { (one : Seat) → Waits workspace.old.bundles one → CanRun (length state.now) (rooms workspace.old) dense.now.codes.items dense.now.nodes.items one }
+    requires known { Knows dense.now.codes.items known.old.codes.items }
     requires room { vec_len workspace.old.changes + waiting_sum (outputs_at dense.now.codes.items) workspace.old.bundles
         ≤ vec_capacity workspace.old.changes }
     ensures runs { RunsSome joining dense.now.codes.items dense.now.nodes.items state.now workspace.old.bundles workspace.new.bundles
         workspace.old.changes.items workspace.new.changes.items }
     ensures empty { IsEmptyFrom 0 workspace.new.bundles }
     ensures steps { steps.new ≤ steps.old + waiting_sum (instructions_at dense.now.codes.items) workspace.old.bundles }
+    ensures known { Knows dense.now.codes.items known.new.codes.items }
     ensures done { workspace.new.done ≡ workspace.old.done }
     ensures rooms { rooms workspace.new ≡ rooms workspace.old }
 {
     let high = workspace.bundles.high();
     for place in 0..high {
-        run_slot(joining, dense, state, place, workspace, steps);
+        run_slot(joining, dense, state, place, known, workspace, steps);
     }
 }
 
@@ -152,11 +175,13 @@ fn run_slot<L: Ledger>(
     dense: &DenseParts,
     state: &[Tern],
     place: usize,
+    known: &mut KnownRuns,
     workspace: &mut Workspace,
     steps: &mut Steps<L>,
 )
     requires inside { place < SLOTS }
     requires all { (one : Seat) → Waits workspace.old.bundles one → CanRun (length state.now) (rooms workspace.old) dense.now.codes.items dense.now.nodes.items one }
+    requires known { Knows dense.now.codes.items known.old.codes.items }
     requires room { vec_len workspace.old.changes + waiting_sum (outputs_at dense.now.codes.items) workspace.old.bundles
         ≤ vec_capacity workspace.old.changes }
     ensures runs { RunsSome joining dense.now.codes.items dense.now.nodes.items state.now workspace.old.bundles workspace.new.bundles
@@ -166,6 +191,7 @@ fn run_slot<L: Ledger>(
         ≤ vec_len workspace.old.changes + waiting_sum (outputs_at dense.now.codes.items) workspace.old.bundles }
     ensures steps { steps.new + waiting_sum (instructions_at dense.now.codes.items) workspace.new.bundles
         ≤ steps.old + waiting_sum (instructions_at dense.now.codes.items) workspace.old.bundles }
+    ensures known { Knows dense.now.codes.items known.new.codes.items }
     ensures done { workspace.new.done ≡ workspace.old.done }
     ensures rooms { rooms workspace.new ≡ rooms workspace.old }
 {
@@ -173,14 +199,17 @@ fn run_slot<L: Ledger>(
     if starts.is_empty() {
         return;
     }
-    let code = &dense.codes[workspace.bundles.code(place) as usize];
-    run_together(
+    let number = workspace.bundles.code(place);
+    let code = &dense.codes[number as usize];
+    run_known(
         joining,
+        number,
         code,
         &dense.nodes,
         starts,
         state,
         &mut workspace.values,
+        known,
         &mut workspace.changes,
         steps,
     );

@@ -128,7 +128,7 @@ fn values_of(part: &MachinePart) -> Option<usize>
 }
 
 // How many values code reads: both constants, both rails of each input, and the results.
-fn count_values(code: &Code) -> Option<usize>
+pub(crate) fn count_values(code: &Code) -> Option<usize>
     ensures some { IfSome result (λ count. 2 + 2 * code.now.inputs + length code.now.instructions ≡ count) }
     ensures none { IfNone result (2 ^ 64 ≤ 2 + 2 * code.now.inputs + length code.now.instructions) }
 {

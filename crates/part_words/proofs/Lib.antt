@@ -1,3 +1,4 @@
 pub mod GatherLemmas
 pub mod ColumnStates
 pub mod NotingLemmas
+pub mod LastRunsLemmas

@@ -1,2 +1,3 @@
+pub mod LastRuns
 pub mod Members
 pub mod Noting

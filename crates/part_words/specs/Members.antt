@@ -17,10 +17,10 @@ pub record HasState (column hi lo : ℕ) (state : Tern) : Type 0 where
 abbrev pub HasRails : List ℕ → ℕ → ℕ → (ℕ → Tern) → Type 0
 HasRails starts hi lo states = (column at : ℕ) → slice_get starts column ≡ Some at → HasState column hi lo (states at)
 
--- in the column of each part the array has the rails of the part's inputs and the results of the code's instructions
-abbrev pub HasRun : CodeData → List ℕ → List ℕ → List Tern → List ℕ → Type 0
-HasRun code nodes starts state values = (column at : ℕ) → slice_get starts column ≡ Some at →
-    take (2 + 2 * code.inputs + length code.instructions) (column_bits column values)
+-- in the column of each part, behind so many others, the array has the rails of the part's inputs and the results of the code's instructions
+abbrev pub HasRun : CodeData → List ℕ → List ℕ → ℕ → List Tern → List ℕ → Type 0
+HasRun code nodes starts shift state values = (column at : ℕ) → slice_get starts column ≡ Some at →
+    take (2 + 2 * code.inputs + length code.instructions) (column_bits (shift + column) values)
     ≡ flat_values (states_at state nodes code.inputs at) (results (states_at state nodes code.inputs at) code.instructions)
 
 -- the member at place k of the part whose map begins at this place changes so, by its states before and after

@@ -52,7 +52,7 @@ fn rails_of(state: &[Tern], nodes: &[u32], starts: &[u32], j: usize) -> (u64, u6
 }
 
 // A word with a column's bit set too, if it is to be. It has no branch.
-fn with_bit(word: u64, column: usize, set: bool) -> u64
+pub(crate) fn with_bit(word: u64, column: usize, set: bool) -> u64
     requires { column < 64 }
     ensures same { is_in_column column result ≡ (is_in_column column word || set) }
     ensures other { (other : ℕ) → other ≢ column → is_in_column other result ≡ is_in_column other word }

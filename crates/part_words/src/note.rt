@@ -11,29 +11,32 @@ use straight_code::Code;
 use ternary::Tern;
 use word_columns::output_words;
 
-// Notes each member of the parts whose next state differs from its state, by the array in which their code ran.
-// A joining step joins what the code gives with the state.
+// Notes each member of the parts whose next state differs from its state, by the array in which their code ran, in the
+// columns behind so many others. A joining step joins what the code gives with the state.
 pub(crate) fn note_all(
     joining: bool,
     code: &Code,
     nodes: &[u32],
     starts: &[u32],
     values: &[u64],
+    shift: usize,
     changes: &mut Vec<Change>,
 )
-    requires columns { length starts.now ≤ 64 }
+    requires columns { shift + length starts.now ≤ 64 }
+    requires shift { shift < 64 }
     requires inside { All (λ at. at + code.now.inputs ≤ length nodes.now) starts.now }
     requires front { length code.now.outputs ≤ code.now.inputs }
     requires values { 2 + 2 * code.now.inputs + length code.now.instructions ≤ length values.now }
     requires room { vec_len changes.old + length starts.now * length code.now.outputs ≤ vec_capacity changes.old }
-    ensures notes { (state : List Tern) → HasRun code.now nodes.now starts.now state values.now
+    ensures notes { (state : List Tern) → HasRun code.now nodes.now starts.now shift state values.now
         → NotesAll joining code.now nodes.now starts.now state changes.old.items changes.new.items }
     ensures few { vec_len changes.new ≤ vec_len changes.old + length starts.now * length code.now.outputs }
     ensures capacity { vec_capacity changes.new ≡ vec_capacity changes.old }
 {
     for k in 0..code.outputs() {
-        let old = (values[2 + 2 * k], values[3 + 2 * k]);
-        let new = after(joining, old, output_words(code, values, k));
+        let old = (values[2 + 2 * k] >> shift, values[3 + 2 * k] >> shift);
+        let given = output_words(code, values, k);
+        let new = after(joining, old, (given.0 >> shift, given.1 >> shift));
         note_member(nodes, starts, k, old, new, changes);
     }
 }

@@ -40,5 +40,5 @@ pub fn run_together<L: Ledger>(
 {
     gather(state, nodes, starts, code.inputs(), values);
     run_steps(code, values, steps);
-    note_all(joining, code, nodes, starts, values, changes);
+    note_all(joining, code, nodes, starts, values, 0, changes);
 }

@@ -35,7 +35,7 @@ pub fn advance_beside<L: Ledger>(
     joining: bool,
     changes: &[Change],
     parts: &[MachinePart],
-    dense: &DenseParts,
+    dense: &mut DenseParts,
     owners: &[Option<usize>],
     readers: &ReaderLists,
     good: &mut [Tern],
@@ -48,7 +48,7 @@ pub fn advance_beside<L: Ledger>(
     near: &mut Option<Near>,
     steps: &mut Steps<L>,
 ) -> bool
-    requires dense { AreDense parts.now dense.now }
+    requires dense { AreDense parts.now dense.old }
     requires wide { HoldsWide parts.now bad.old (vec_capacity noted.old) wide.old }
     requires runnable { IsRunnable parts.now agenda.old.marks agenda.old.waiting (length bad.old) readers.now (rooms workspace.old) }
     requires owners { AreOwners parts.now (length bad.old) owners.now }
@@ -59,6 +59,7 @@ pub fn advance_beside<L: Ledger>(
     requires marked { (k : ℕ) → IsMarked agenda.old.marks k → IsMarked apart.old.inside k }
     requires kept { KeepsApart owners.now readers.now apart.old.inside good.old bad.old }
     requires near { AreNearIn parts.now owners.now near.old }
+    ensures dense { AreDense parts.now dense.new }
     ensures good { IsTaken changes.now good.old good.new }
     ensures moves { MovesBeside joining parts.now agenda.old.marks wide.old owners.now apart.old.inside changes.now bad.old bad.new }
     ensures retouches { RetouchesIn joining wide.old wide.new bad.old bad.new }
@@ -82,19 +83,13 @@ pub fn advance_beside<L: Ledger>(
     touched_is_listed(wide);
     calm(joining, wide);
     look_near(changes, parts, apart, near);
-    follow(changes, owners, apart, near_flags(near), good, bad, wide);
+    let flags = near_flags(near);
+    let first = follow(changes, owners, apart, flags, good, bad, wide);
     write_all(&workspace.changes, bad, wide);
     write_all(noted, bad, wide);
     touched_is_listed(wide);
     notice_near(
-        changes,
-        owners,
-        readers,
-        near_flags(near),
-        good,
-        bad,
-        apart,
-        agenda,
+        changes, first, owners, readers, flags, good, bad, apart, agenda,
     );
     notice(
         &workspace.changes,

@@ -59,7 +59,7 @@ impl Machine {
             joining,
             changes,
             &self.body.parts,
-            &self.body.dense,
+            &mut self.body.dense,
             &self.body.owners,
             &self.body.readers,
             good,

@@ -25,7 +25,7 @@ use part_steps::{
     Agenda, DenseParts, ReaderLists, Workspace, all_owners, count_held, parts_with_reads,
     workspace_for,
 };
-use part_words::Change;
+use part_words::{Change, KnownRuns};
 use run_beside::Near;
 use std::alloc::{AllocError, Global};
 use switch_paths::{Graph, graphs_are_wired};
@@ -197,7 +197,7 @@ fn parts_with_code(alloc: Global, parts: &[MachinePart]) -> Result<Vec<usize>, A
 
 // What a step reads of these parts; those whose texts have one number share their code. More codes or nodes than
 // a number of 32 bits can count are refused as lack of memory.
-#[tactic(auto, using(part_steps::proofs::DenseLemmas::no_seats, part_steps::proofs::DenseLemmas::places_none))]
+#[tactic(auto, using(part_steps::proofs::DenseLemmas::no_seats, part_steps::proofs::DenseLemmas::places_none, part_steps::proofs::DenseLemmas::known_none))]
 fn dense_of(alloc: Global, parts: &[MachinePart], uses: &TextUses) -> Result<DenseParts, NoMemory>
     requires inputs { All HasInputs parts.now }
     requires numbered { length uses.now.numbers ≡ length parts.now }
@@ -210,6 +210,7 @@ fn dense_of(alloc: Global, parts: &[MachinePart], uses: &TextUses) -> Result<Den
         nodes: Vec::new(alloc),
         seats: Vec::with_capacity(alloc, parts.len())?,
         places: Vec::new(alloc),
+        known: KnownRuns::none(alloc),
     };
     for (k, part) in parts.iter().enumerate() {
         let seat = dense.seat_shared(part, uses.number_of(k), &mut places)?;

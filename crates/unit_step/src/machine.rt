@@ -376,7 +376,7 @@ impl Machine {
         let moved = advance(
             joining,
             &self.body.parts,
-            &self.body.dense,
+            &mut self.body.dense,
             &self.body.readers,
             &mut self.body.state,
             &mut self.body.agenda,

@@ -89,11 +89,12 @@ fn run_uncounted(code: &Code, values: &mut [u64])
 }
 
 /// Runs the instructions of code in all columns, where the constants and the rails of the inputs stand in the array,
-/// as [`Code::run_mapped`] would: behind them stand the results then. It takes one step for each instruction, and no
-/// memory.
+/// as [`Code::run_mapped`] would: behind them, which stay, stand the results then. It takes one step for each
+/// instruction, and no memory.
 pub fn run_steps<L: Ledger>(code: &Code, values: &mut [u64], steps: &mut Steps<L>)
     requires values { 2 + 2 * code.now.inputs + length code.now.instructions ≤ length values.old }
     ensures count { length values.new ≡ length values.old }
+    ensures front { take (2 + 2 * code.now.inputs) values.new ≡ take (2 + 2 * code.now.inputs) values.old }
     ensures steps { steps.new ≡ steps.old + length code.now.instructions }
     ensures ran { (column : ℕ) (input : List Tern) → column < 64 → length input ≡ code.now.inputs
         → take (2 + 2 * code.now.inputs) (column_bits column values.old) ≡ flat_values input []

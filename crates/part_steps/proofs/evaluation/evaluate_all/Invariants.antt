@@ -6,6 +6,7 @@ use Rattle.machine_parts.specs.Marking.{count_marked, marked_sum, instructions_o
 use Rattle.part_steps.specs.Workspaces.{rooms}
 use Rattle.part_steps.specs.Waiting.{Waits, waiting_sum}
 use Rattle.part_steps.specs.Together.{CanRun, EvaluatedBut, outputs_at, instructions_at}
+use Rattle.part_steps.specs.Known.{Knows}
 use Rattle.part_steps.proofs.evaluation.evaluate_all.Given as goal
 
 abbrev pub invariant-loop-k : goal.invariant-loop-k
@@ -13,6 +14,7 @@ invariant-loop-k g l = record {
   evaluated : EvaluatedBut l.joining l.parts l.state l.fn.agenda.waiting l.fn.agenda.marks l.agenda.marks l.dense.seats.items l.workspace.bundles
       l.workspace.changes.items l.workspace.done.items;
   all : (one : Seat) → Waits l.workspace.bundles one → CanRun (length l.state) (rooms l.fn.workspace) l.dense.codes.items l.dense.nodes.items one;
+  known : Knows l.dense.codes.items l.known.codes.items;
   count : length l.agenda.marks ≡ length l.fn.agenda.marks;
   waiting : l.agenda.waiting ≡ l.fn.agenda.waiting;
   rooms : rooms l.workspace ≡ rooms l.fn.workspace;

@@ -26,6 +26,7 @@ loop-place-preserved g c =
       from = subst (IsEmptyFrom high) (sym ran.cleared) (IsEmptyFrom-cleared slots place inside high so_far.from);
       room = omega (arith, ran.room, so_far.room, ap (λ (room : Rooms). room.changes) ran.rooms);
       steps = omega (arith, ran.steps, so_far.steps);
+      known = ran.known;
       done = ran.done ∙ so_far.done;
       rooms = ran.rooms ∙ so_far.rooms;
     }

@@ -4,8 +4,8 @@ use Rattle.std.specs.Prelude.{slice_get, Some, vec_capacity}
 use Rattle.std.proofs.lemmas.List.{take_more, take_all, with_items_is}
 use Rattle.std.proofs.lemmas.Option.{slice_get_read}
 use Rattle.part_steps.specs.declared.dense.Seat.{Seat}
-use Rattle.part_steps.specs.Dense.{HaveCodes, ArePlaces, IsPartNumbered, AreDense}
-use Rattle.part_steps.proofs.DenseLemmas.{AreSeatsOf-more, AreSeatsOf-push, numbered_part}
+use Rattle.part_steps.specs.Dense.{HaveCodes, ArePlaces, IsPartNumbered, AreSeatsOf}
+use Rattle.part_steps.proofs.DenseLemmas.{AreSeatsOf-more, AreSeatsOf-push, Knows-grown, numbered_part}
 use Rattle.unit_step.proofs.body.dense_of.Goals as goal
 
 pub loop-k-preserved : goal.loop-k-preserved
@@ -37,9 +37,15 @@ loop-k-preserved c =
       room = omega (arith, c.push_reserved.ensures.capacity, so_far.room, ap (λ (list : Vec (Option Seat) Global). vec_capacity list) grows.seats);
       places_counted = omega (arith, ap length final, c.seat_shared.auto.places, c.deref_mut.ensures.len, so_far.places_counted, c.loop-k.places.ok.0);
       places = λ codes. subst (ArePlaces codes.codes new.codes.items) (sym final) (c.seat_shared.ensures.places codes.codes (numbered codes) (places codes));
+      known = Knows-grown old new grows so_far.known;
       seats = rw (passed, items) pushed;
     }
 
 pub returns : goal.returns
 returns c =
-    subst (λ list. AreDense list c.loop-k.dense) (take_all c.loop-k.k c.args.parts.now (omega (arith, c.loop-k-test.false))) c.loop-k.invariant.seats
+    let dense = c.loop-k.dense in
+    record {
+      seats = subst (λ list. AreSeatsOf list dense.codes.items dense.nodes.items dense.seats.items)
+          (take_all c.loop-k.k c.args.parts.now (omega (arith, c.loop-k-test.false))) c.loop-k.invariant.seats;
+      known = c.loop-k.invariant.known;
+    }

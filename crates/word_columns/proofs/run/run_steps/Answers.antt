@@ -1,5 +1,6 @@
 -- In each column each instruction gives its result in the array.
-use Rattle.std.proofs.Common.{◌≡◌, ◌+◌, ◌*◌, take, ap, ◌∙◌, arith}
+use Rattle.std.proofs.Common.{◌≡◌, ◌+◌, ◌*◌, take, refl, ap, ◌∙◌, arith}
+use Rattle.std.proofs.lemmas.List.{take-set-le}
 use Rattle.straight_code.specs.Code.{results}
 use Rattle.word_columns.specs.Columns.{column_bits}
 use Rattle.straight_code.proofs.RunMappedLemmas.{length-steps}
@@ -12,6 +13,7 @@ loop-done-init g c = record {
   done = λ column input inside many begins.
       let place : 2 + 2 * c.args.code.now.inputs + 0 ≡ 2 + 2 * c.args.code.now.inputs = omega arith in
       ap (λ count. take count (column_bits column c.args.values.now)) place ∙ begins;
+  front = refl;
   steps = omega arith;
 }
 
@@ -28,6 +30,7 @@ loop-done-preserved g c = record {
       (step_written c.args.code.now c.deref-step-items.result.now (c.deref-step-items.ensures.value ∙ c.dense.ensures.flat.steps)
       c.dense.ensures.program c.loop-done.done (omega arith) column input c.loop-done.values c.step_words.result many (omega arith)
       (rw c.inputs.ensures at c.step_words.ensures column inside) (c.loop-done.invariant.done column input inside many begins));
+  front = take-set-le (2 + 2 * c.args.code.now.inputs) c.loop-done.values _ _ (omega (arith, c.inputs.ensures)) ∙ c.loop-done.invariant.front;
   steps = omega (arith, c.tick.ensures, c.loop-done.invariant.steps);
 }
 

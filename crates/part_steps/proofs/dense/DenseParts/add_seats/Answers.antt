@@ -22,3 +22,7 @@ loop-k-preserved c =
       room = omega (arith, c.push_reserved.ensures.capacity, so_far.room);
       seats = rw (passed, c.push_reserved.ensures.items) pushed;
     }
+
+pub returns-in_err-seat-clause-more : goal.returns-in_err-seat-clause-more
+returns-in_err-seat-clause-more c =
+    grows_then c.args.self.now c.loop-k.self c.seat_numbered.new.self c.loop-k.invariant.more c.seat_numbered.ensures.more

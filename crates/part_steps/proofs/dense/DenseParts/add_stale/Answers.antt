@@ -6,5 +6,9 @@ use Rattle.part_steps.proofs.dense.DenseParts.add_stale.Goals as goal
 pub returns : goal.returns
 returns c parts part none of =
     let dense = c.args.self.now in
-    rw c.push_reserved.ensures.items
-    (AreSeatsOf-push parts part dense.codes.items dense.nodes.items dense.seats.items None of (IsSeatOf-none part dense.codes.items dense.nodes.items none))
+    record {
+      seats = rw c.push_reserved.ensures.items
+          (AreSeatsOf-push parts part dense.codes.items dense.nodes.items dense.seats.items None of.seats
+          (IsSeatOf-none part dense.codes.items dense.nodes.items none));
+      known = of.known;
+    }

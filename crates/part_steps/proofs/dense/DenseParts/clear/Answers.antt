@@ -6,4 +6,8 @@ use Rattle.part_steps.proofs.dense.DenseParts.clear.Goals as goal
 pub returns : goal.returns
 returns c parts part none of =
     let dense = c.args.self.now in
-    AreSeatsOf-set parts c.args.k part dense.codes.items dense.nodes.items dense.seats.items None of (IsSeatOf-none part dense.codes.items dense.nodes.items none)
+    record {
+      seats = AreSeatsOf-set parts c.args.k part dense.codes.items dense.nodes.items dense.seats.items None of.seats
+          (IsSeatOf-none part dense.codes.items dense.nodes.items none);
+      known = of.known;
+    }

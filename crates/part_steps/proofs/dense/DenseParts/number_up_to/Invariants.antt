@@ -7,6 +7,7 @@ invariant-loop-self l = record {
   codes : l.self.codes ≡ l.fn.self.codes;
   nodes : l.self.nodes ≡ l.fn.self.nodes;
   seats : l.self.seats ≡ l.fn.self.seats;
+  known : l.self.known ≡ l.fn.self.known;
 }
 
 abbrev pub decreases-loop-self : goal.decreases-loop-self

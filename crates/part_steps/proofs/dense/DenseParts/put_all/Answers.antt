@@ -18,5 +18,5 @@ returns c =
     let all = c.put_in.new.all in
     let final = with_items_is dense.seats all (omega (arith, c.put_in.auto.all, c.deref_mut.ensures.len)) in
     let puts = subst (λ (list : List (Option Seat)). Puts slots seats list all) c.deref_mut.ensures.value c.put_in.ensures in
-    seats_put slots dense (record dense { seats = with_items dense.seats all }) seats refl refl
+    seats_put slots dense (record dense { seats = with_items dense.seats all }) seats refl refl refl
     (subst (λ (list : List (Option Seat)). Puts slots seats dense.seats.items list) (sym final) puts)

@@ -264,7 +264,7 @@ put_all-requires-clause-inside c =
     let i = c.self.inside in
     let made = parts_made (goal.at.put_all-requires-clause-inside c).In-Some in
     let old_seats = c.seats_for.ensures.same i.body.parts.items c.self.invariant.1 in
-    rw c.deref-12.ensures.value (λ k d inside. omega (arith, made.inside k d inside, old_seats.counted))
+    rw c.deref-12.ensures.value (λ k d inside. omega (arith, made.inside k d inside, old_seats.seats.counted))
 
 pub put_all-requires-clause-counted : goal.put_all-requires-clause-counted
 put_all-requires-clause-counted c =

@@ -11,6 +11,7 @@ use Rattle.machine_parts.specs.Marking.{IsMarked, marked_sum, instructions_of}
 use Rattle.machine_parts.proofs.MachineLemmas.{IsMachine-again}
 use Rattle.wide_groups.specs.Moving.{RetouchesIn}
 use Rattle.wide_groups.specs.Awake.{HoldsWide, IsWorked}
+use Rattle.part_steps.specs.Dense.{AreDense}
 use Rattle.part_steps.specs.Workspaces.{rooms}
 use Rattle.machine_laws.specs.Machines.{MachineData}
 use Rattle.run_beside.specs.Following.{IsWritten, FollowsAt}
@@ -63,7 +64,7 @@ invariant_of-self g c =
       IsMachine-again i.body.parts.items i.body.agenda.marks c.advance_beside.new.agenda.marks i.body.agenda.waiting c.advance_beside.new.agenda.waiting
           (length i.body.state.items) _ i.body.readers i.body.owners.items i.body.uses.numbers i.body.held i.body.most (rooms i.body.workspace)
           (rooms c.advance_beside.new.workspace) step.marks.count step.waiting nodes step.rooms c.self.invariant.0,
-      c.self.invariant.1,
+      subst (λ parts. AreDense parts c.advance_beside.new.dense) c.deref-2.ensures.value step.dense,
       subst (λ n. AreLastTexts i.body.parts.items i.body.uses.numbers n (length i.body.uses.known) i.body.last_texts) (sym nodes) c.self.invariant.2,
       subst (λ state. HoldsWide i.body.parts.items state (vec_capacity c.advance_beside.new.noted) c.advance_beside.new.wide) (sym final)
           (subst (λ list. HoldsWide list n (vec_capacity c.advance_beside.new.noted) c.advance_beside.new.wide) c.deref-2.ensures.value step.holds),

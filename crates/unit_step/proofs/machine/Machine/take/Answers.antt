@@ -11,6 +11,7 @@ use Rattle.std.specs.Prelude.{vec_capacity}
 use Rattle.machine_parts.specs.Stepping.{Remarks}
 use Rattle.wide_groups.specs.Moving.{MovesIn, RetouchesIn}
 use Rattle.wide_groups.specs.Awake.{HoldsWide, IsWorked}
+use Rattle.part_steps.specs.Dense.{AreDense}
 use Rattle.part_steps.specs.Workspaces.{rooms, nodes_noted}
 use Rattle.unit_step.specs.LastTexts.{AreLastTexts}
 use Rattle.machine_parts.proofs.MachineLemmas.{IsMachine-again}
@@ -33,7 +34,7 @@ invariant_of-self g c =
       IsMachine-again i.body.parts.items i.body.agenda.marks c.advance-moved.new.agenda.marks i.body.agenda.waiting c.advance-moved.new.agenda.waiting
           (length i.body.state.items) _ i.body.readers i.body.owners.items i.body.uses.numbers i.body.held i.body.most (rooms i.body.workspace) (rooms c.advance-moved.new.workspace)
           step.marks.count step.waiting nodes step.rooms c.self.invariant.0,
-      c.self.invariant.1,
+      subst (λ list. AreDense list c.advance-moved.new.dense) c.deref.ensures.value step.dense,
       subst (λ n. AreLastTexts i.body.parts.items i.body.uses.numbers n (length i.body.uses.known) i.body.last_texts) (sym nodes) c.self.invariant.2,
       subst (λ state. HoldsWide i.body.parts.items state (vec_capacity c.advance-moved.new.noted) c.advance-moved.new.wide) (sym final)
           (subst (λ list. HoldsWide list n (vec_capacity c.advance-moved.new.noted) c.advance-moved.new.wide) c.deref.ensures.value step.holds),
