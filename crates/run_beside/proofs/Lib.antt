@@ -5,6 +5,7 @@ pub mod BesideRuns
 pub mod WritingLemmas
 pub mod SettlingRuns
 pub mod NoticingLemmas
+pub mod NearFront
 pub mod NearLemmas
 pub mod KeepingApart
 pub mod AdvancingLemmas

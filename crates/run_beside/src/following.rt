@@ -1,5 +1,5 @@
 //! The good run's changes, taken over in both runs, and those of the run under a fault alone.
-ghost use Rattle.std.specs.Prelude.{◌≡◌, ℕ, ◌<◌, ◌⊎◌, Contains, Some, None, length, slice_index_or, slice_set};
+ghost use Rattle.std.specs.Prelude.{◌≡◌, ℕ, ◌<◌, ◌≤◌, ◌⊎◌, Contains, Some, None, length, take, slice_index_or, slice_set};
 ghost use Rattle.std.specs.Bool.{OnTrue, OnFalse};
 ghost use Rattle.part_words.specs.declared.change.Change.{Change};
 ghost use Rattle.machine_parts.specs.Words.{AreAgreed, IsTaken};
@@ -26,7 +26,8 @@ pub fn does_follow(owners: &[Option<usize>], apart: &NodeSet, node: usize) -> bo
 }
 
 /// Takes over the changes of a step of the good run: the good state has them all, and the state under the fault
-/// those of the nodes that follow. Those whose flag is unset do.
+/// those of the nodes that follow. Those whose flag is unset do. Answers how many changes stand in front of the first
+/// whose node has no flag that is unset.
 pub fn follow(
     changes: &[Change],
     owners: &[Option<usize>],
@@ -35,7 +36,7 @@ pub fn follow(
     good: &mut [Tern],
     bad: &mut [Tern],
     wide: &mut Option<Wide>,
-)
+) -> usize
     requires inside { (change : Change) → Contains changes.now change → change.node < length good.old }
     requires agreed { AreAgreed changes.now }
     requires counted { length bad.old ≡ length good.old }
@@ -43,17 +44,23 @@ pub fn follow(
     requires owners { (n k : ℕ) → slice_index_or owners.now n None ≡ Some k → k < length apart.now.inside }
     requires far { (node : ℕ) → IsOut near.now node → node < length good.old → FollowsAt owners.now apart.now.inside node }
     requires wide { IsListedIn bad.old wide.old }
+    ensures few { result ≤ length changes.now }
+    ensures far { (change : Change) → Contains (take result changes.now) change → IsOut near.now change.node }
     ensures good { IsTaken changes.now good.old good.new }
     ensures bad { IsWritten (FollowsAt owners.now apart.now.inside) changes.now bad.old bad.new }
     ensures turned { TurnedIn wide.old wide.new bad.old bad.new }
 {
-    for change in changes {
+    let mut first = changes.len();
+    for (k, change) in changes.iter().enumerate() {
         good[change.node] = change.value;
-        follow_one(*change, owners, apart, near, bad, wide);
+        if !follow_one(*change, owners, apart, near, bad, wide) {
+            first = first.min(k);
+        }
     }
+    first
 }
 
-// Writes a change if its node follows.
+// Writes a change if its node follows, and answers whether the node's flag is unset.
 fn follow_one(
     change: Change,
     owners: &[Option<usize>],
@@ -61,33 +68,25 @@ fn follow_one(
     near: &[bool],
     bad: &mut [Tern],
     wide: &mut Option<Wide>,
-)
+) -> bool
     requires inside { change.node < length bad.old }
     requires owned { length owners.now ≡ length bad.old }
     requires owners { (n k : ℕ) → slice_index_or owners.now n None ≡ Some k → k < length apart.now.inside }
     requires far { IsOut near.now change.node → FollowsAt owners.now apart.now.inside change.node }
     requires wide { IsListedIn bad.old wide.old }
+    ensures far { OnTrue result (IsOut near.now change.node) }
     ensures bad { (FollowsAt owners.now apart.now.inside change.node × (bad.new ≡ slice_set bad.old change.node change.value))
         ⊎ ((¬ FollowsAt owners.now apart.now.inside change.node) × (bad.new ≡ bad.old)) }
     ensures turned { TurnedIn wide.old wide.new bad.old bad.new }
 {
-    if is_taken_over(owners, apart, near, change.node) {
+    if is_out(near, change.node) {
         write(change.node, change.value, bad, wide);
-    }
-}
-
-// Whether a node follows, which those do whose flag is unset.
-fn is_taken_over(owners: &[Option<usize>], apart: &NodeSet, near: &[bool], node: usize) -> bool
-    requires inside { node < length owners.now }
-    requires owners { (n k : ℕ) → slice_index_or owners.now n None ≡ Some k → k < length apart.now.inside }
-    requires far { IsOut near.now node → FollowsAt owners.now apart.now.inside node }
-    ensures yes { OnTrue result (FollowsAt owners.now apart.now.inside node) }
-    ensures no { OnFalse result (¬ FollowsAt owners.now apart.now.inside node) }
-{
-    if is_out(near, node) {
         return true;
     }
-    does_follow(owners, apart, node)
+    if does_follow(owners, apart, change.node) {
+        write(change.node, change.value, bad, wide);
+    }
+    false
 }
 
 /// Writes all of these changes.

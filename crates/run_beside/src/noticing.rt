@@ -1,5 +1,5 @@
 //! Which parts are apart after some changes, and which of them may move in the next step.
-ghost use Rattle.std.specs.Prelude.{◌≡◌, ◌≢◌, ℕ, ◌<◌, Contains, Some, length};
+ghost use Rattle.std.specs.Prelude.{◌≡◌, ◌≢◌, ℕ, ◌<◌, ◌≤◌, Contains, Some, length, take};
 ghost use Rattle.std.specs.Bool.{OnTrue, OnFalse};
 ghost use Rattle.switch_paths.specs.Switching.{state_at};
 ghost use Rattle.part_words.specs.declared.change.Change.{Change};
@@ -40,8 +40,46 @@ pub fn notice(
 /// Of these changes' nodes, which the good run changed, each that differs puts the parts apart that it concerns, and marks those that
 /// weren't: it didn't follow, so to those that were apart it is new only if the run under a fault changed it, which `notice` is told of.
 /// Each that agrees marks the parts that are apart and read it. Nodes whose flag is unset aren't looked at: these agree, and no part
-/// that is apart reads them.
+/// that is apart reads them. So are the nodes of the first changes, so many, which are passed all at once.
 pub fn notice_near(
+    changes: &[Change],
+    first: usize,
+    owners: &[Option<usize>],
+    readers: &ReaderLists,
+    near: &[bool],
+    good: &[Tern],
+    bad: &[Tern],
+    apart: &mut NodeSet,
+    agenda: &mut Agenda,
+)
+    requires first { first ≤ length changes.now }
+    requires far { (change : Change) → Contains (take first changes.now) change → IsOut near.now change.node }
+    requires inside { (change : Change) → Contains changes.now change → change.node < length good.now }
+    requires counted { length bad.now ≡ length good.now }
+    requires owned { length owners.now ≡ length good.now }
+    requires read { length readers.now ≡ length good.now }
+    requires parts { (node k : ℕ) → IsConcerned owners.now readers.now node k → k < length apart.old.inside }
+    requires marks { length agenda.old.marks ≡ length apart.old.inside }
+    requires agrees { (change : Change) → Contains changes.now change → IsOut near.now change.node → state_at bad.now change.node ≡ state_at good.now change.node }
+    requires unread { (change : Change) → Contains changes.now change → IsOut near.now change.node →
+        (k : ℕ) → Contains (readers_of readers.now change.node) k → ¬ IsMarked apart.old.inside k }
+    ensures notices { NoticesGood changes.now owners.now readers.now good.now bad.now apart.old.inside apart.new.inside agenda.old.marks agenda.new.marks }
+    ensures waiting { agenda.new.waiting ≡ agenda.old.waiting }
+{
+    notice_those(
+        &changes[first..],
+        owners,
+        readers,
+        near,
+        good,
+        bad,
+        apart,
+        agenda,
+    );
+}
+
+// The same of all of these changes.
+fn notice_those(
     changes: &[Change],
     owners: &[Option<usize>],
     readers: &ReaderLists,

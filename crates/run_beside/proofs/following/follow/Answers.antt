@@ -1,63 +1,88 @@
 -- One change more is taken over in both runs.
-use Rattle.std.proofs.Common.{◌<◌, inl, inr, get_or, refl, sym, ap, subst, arith}
+use Rattle.std.proofs.Common.{◌<◌, ◌≤◌, inl, inr, get_or, refl, sym, ap, subst, arith}
 use Rattle.std.specs.Prelude.{length}
+use Rattle.std.proofs.lemmas.Bool.{cases_eq, OnTrue_at}
 use Rattle.std.proofs.lemmas.List.{get_or_default}
 use Rattle.switch_paths.specs.Switching.{state_at}
 use Rattle.vicinity.proofs.TouchLemmas.{IsTaken-more, NoneTwice}
 use Rattle.wide_groups.proofs.WideCases.{TurnedIn-none, TurnedIn-then, listed_turned}
 use Rattle.part_advance.proofs.NextChange.{default_change, next_inside}
 use Rattle.run_beside.specs.Following.{IsWritten, FollowsAt}
+use Rattle.run_beside.specs.Near.{IsOut}
+use Rattle.run_beside.proofs.NearFront.{first_is_out}
 use Rattle.run_beside.proofs.WritingLemmas.{written, passed, none_twice-written}
+use Rattle.run_beside.proofs.following.follow.Goals.{then-not-follow_one, else-not-follow_one}
 use Rattle.run_beside.proofs.following.follow.Goals as goal
 
-pub loop-change-init : goal.loop-change-init
-loop-change-init c = record {
+pub loop-k-init : goal.loop-k-init
+loop-k-init c = record {
+  few = omega arith;
+  far = λ j before. absurd (omega (arith, before));
   good = record { count = refl; taken = λ change there. absurd (omega (arith, there.1)); stays = λ node none. refl };
   bad = record { count = refl; taken = λ change there asked. absurd (omega (arith, there.1)); stays = λ node none. refl };
   turned = TurnedIn-none c.args.wide.now c.args.bad.now;
 }
 
 pub bounds-good-change : goal.bounds-good-change
-bounds-good-change c = omega (arith, next_inside _ _ _ c.loop-change-test.true c.requires.inside, c.loop-change.invariant.good.count)
+bounds-good-change c = omega (arith, next_inside _ _ _ c.loop-k-test.true c.requires.inside, c.loop-k.invariant.good.count)
 
 pub follow_one-requires-clause-inside : goal.follow_one-requires-clause-inside
 follow_one-requires-clause-inside c =
-    omega (arith, next_inside _ _ _ c.loop-change-test.true c.requires.inside, c.loop-change.invariant.bad.count, c.requires.counted)
+    omega (arith, next_inside _ _ _ c.loop-k-test.true c.requires.inside, c.loop-k.invariant.bad.count, c.requires.counted)
 
 pub follow_one-requires-clause-wide : goal.follow_one-requires-clause-wide
 follow_one-requires-clause-wide c =
-    listed_turned c.args.wide.now c.loop-change.wide c.args.bad.now c.loop-change.bad c.loop-change.invariant.turned
-    c.loop-change.invariant.bad.count c.requires.wide
+    listed_turned c.args.wide.now c.loop-k.wide c.args.bad.now c.loop-k.bad c.loop-k.invariant.turned
+    c.loop-k.invariant.bad.count c.requires.wide
 
 pub follow_one-requires-clause-far : goal.follow_one-requires-clause-far
-follow_one-requires-clause-far c = λ far. c.requires.far _ far (next_inside _ _ _ c.loop-change-test.true c.requires.inside)
+follow_one-requires-clause-far c = λ far. c.requires.far _ far (next_inside _ _ _ c.loop-k-test.true c.requires.inside)
 
-pub loop-change-preserved : goal.loop-change-preserved
-loop-change-preserved c =
+pub loop-k-preserved : goal.loop-k-preserved
+loop-k-preserved c =
     let changes = c.args.changes.now in
-    let i = c.loop-change.change-index in
-    let test = c.loop-change-test.true in
+    let i = c.loop-k.k in
+    let test = c.loop-k-test.true in
     let change = get_or changes i default_change in
     let is = get_or_default changes i default_change change test in
     let inside = next_inside changes i _ test c.requires.inside in
-    let in_bad : change.node < length c.loop-change.bad = omega (arith, inside, c.loop-change.invariant.bad.count, c.requires.counted) in
+    let in_bad : change.node < length c.loop-k.bad = omega (arith, inside, c.loop-k.invariant.bad.count, c.requires.counted) in
     let Follows = FollowsAt c.args.owners.now c.args.apart.now.inside in
-    let once : NoneTwice c.args.bad.now c.loop-change.bad c.follow_one.new.bad = elim c.follow_one.ensures.bad [
+    let once : NoneTwice c.args.bad.now c.loop-k.bad c.follow_one.new.bad = elim c.follow_one.ensures.bad [
       | inl (follows, set) ↦
-          subst (NoneTwice c.args.bad.now c.loop-change.bad) (sym set)
-          (none_twice-written Follows changes i change c.args.bad.now c.loop-change.bad test is c.loop-change.invariant.bad c.requires.agreed in_bad)
+          subst (NoneTwice c.args.bad.now c.loop-k.bad) (sym set)
+          (none_twice-written Follows changes i change c.args.bad.now c.loop-k.bad test is c.loop-k.invariant.bad c.requires.agreed in_bad)
       | inr (stays, same) ↦ λ node. inr (ap (λ states. state_at states node) same)
     ] in
+    let no_later : c.if-not-follow_one.first ≤ c.loop-k.first = elim c.if-not-follow_one.branch [
+      | then-not-follow_one w ↦ omega (arith, w.first-is, w.min-first.ensures)
+      | else-not-follow_one w ↦ omega (arith, w.first-is)
+    ] in
     record {
-      good = IsTaken-more changes i default_change c.args.good.now c.loop-change.good test inside c.requires.agreed c.loop-change.invariant.good;
+      few = omega (arith, no_later, c.loop-k.invariant.few);
+      far = λ j before early. elim (cases_eq j i) [
+        | inl same ↦ elim c.if-not-follow_one.branch [
+          | then-not-follow_one w ↦ absurd (omega (arith, early, same, w.first-is, w.min-first.ensures))
+          | else-not-follow_one w ↦
+              subst (λ place. IsOut c.args.near.now (get_or changes place default_change).node) (sym same)
+              (OnTrue_at w.if-not-follow_one.false c.follow_one.ensures.far)
+        ]
+        | inr differs ↦ c.loop-k.invariant.far j (omega (arith, before, differs)) (omega (arith, early, no_later))
+      ];
+      good = IsTaken-more changes i default_change c.args.good.now c.loop-k.good test inside c.requires.agreed c.loop-k.invariant.good;
       bad = elim c.follow_one.ensures.bad [
         | inl (follows, set) ↦
             subst (IsWritten Follows _ c.args.bad.now) (sym set)
-            (written Follows changes i change c.args.bad.now c.loop-change.bad test is c.loop-change.invariant.bad c.requires.agreed follows in_bad)
+            (written Follows changes i change c.args.bad.now c.loop-k.bad test is c.loop-k.invariant.bad c.requires.agreed follows in_bad)
         | inr (stays, same) ↦
             subst (IsWritten Follows _ c.args.bad.now) (sym same)
-            (passed Follows changes i change c.args.bad.now c.loop-change.bad test is c.loop-change.invariant.bad stays)
+            (passed Follows changes i change c.args.bad.now c.loop-k.bad test is c.loop-k.invariant.bad stays)
       ];
-      turned = TurnedIn-then c.args.wide.now c.loop-change.wide c.follow_one.new.wide c.args.bad.now c.loop-change.bad c.follow_one.new.bad once
-          c.loop-change.invariant.turned c.follow_one.ensures.turned;
+      turned = TurnedIn-then c.args.wide.now c.loop-k.wide c.follow_one.new.wide c.args.bad.now c.loop-k.bad c.follow_one.new.bad once
+          c.loop-k.invariant.turned c.follow_one.ensures.turned;
     }
+
+pub returns-clause-far : goal.returns-clause-far
+returns-clause-far c change there =
+    first_is_out c.args.near.now c.args.changes.now c.loop-k.first
+    (λ j inside early. c.loop-k.invariant.far j (omega (arith, inside, c.loop-k-test.false)) early) change there

@@ -1,7 +1,7 @@
 -- What is noticed of the changes so far.
 use Rattle.std.proofs.Common.{◌≡◌, take}
 use Rattle.run_beside.specs.Noticing.{NoticesGood}
-use Rattle.run_beside.proofs.noticing.notice_near.Given as goal
+use Rattle.run_beside.proofs.noticing.notice_those.Given as goal
 
 abbrev pub invariant-loop-change : goal.invariant-loop-change
 invariant-loop-change l = record {
