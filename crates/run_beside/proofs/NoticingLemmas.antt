@@ -1,7 +1,7 @@
 -- What is noticed of some parts and then of others.
 use Rattle.std.proofs.Common.{◌≡◌, ◌≢◌, ℕ, ◌+◌, ◌-◌, ◌<◌, inl, inr, ◌⊎◌, Bool, true, List, [], ◌∷◌, ◌++◌, length, take, drop, get_or, refl, sym, ap, subst, ◌∙◌, arith}
 use Rattle.std.specs.Prelude.{Contains, Option, None, Some, slice_set, slice_index_or}
-use Rattle.std.proofs.lemmas.List.{length-set, length-drop, take_more, take_all, take-append-drop}
+use Rattle.std.proofs.lemmas.List.{length-set, take_more, take-append-drop, drop-drop}
 use Rattle.std.proofs.lemmas.List.Elements.{Contains-push, Contains-push_cases, Contains-append_left, Contains-append_right, Contains-append_cases}
 use Rattle.smallvec.specs.SmallVec.{SmallVec}
 use Rattle.ternary.specs.declared.tern.Tern.{Tern}
@@ -10,6 +10,8 @@ use Rattle.part_words.specs.declared.change.Change.{Change}
 use Rattle.machine_parts.specs.Marking.{IsMarked, MarksAll}
 use Rattle.machine_parts.specs.Readers.{readers_of}
 use Rattle.machine_parts.proofs.SetMarks.{marked-set, marked-stays, marked-set_cases}
+use Rattle.run_beside.specs.declared.near.NearSpan.{NearSpan}
+use Rattle.run_beside.specs.Near.{HasNear, IsOut}
 use Rattle.run_beside.specs.Noticing.{IsConcerned, ConcernsDiffering, Notices, NoticesBoth, NoticesChanges, NoticesGood, ReadsAgreeing}
 
 -- some parts and then others
@@ -312,61 +314,70 @@ NoticesGood-more changes i change owners readers good bad a b c l m n inside is 
     ])
     (Notices-then _ _ _ _ a b c l m n so_far one))
 
--- a slice up to the end is what is left behind the first
-pub slice_behind : (changes : List Change) (first : ℕ) → take (length changes - first) (drop first changes) ≡ drop first changes
-slice_behind changes first = take_all (length changes - first) (drop first changes) (omega (arith, length-drop first changes))
+module _ (changes : List Change) (flags : List Bool) (span : NearSpan) (has : HasNear flags changes span) where
+  -- the changes in the span
+  abbrev pub within : List Change
+  within = take (span.end - span.first) (drop span.first changes)
 
-pub Contains-front : (changes : List Change) (first : ℕ) (change : Change) → Contains (take first changes) change → Contains changes change
-Contains-front changes first change there =
-    subst (λ list. Contains list change) (take-append-drop first changes) (Contains-append_left (take first changes) (drop first changes) change there)
+  -- those in front of it, those in it and those behind it are all changes
+  parts : take span.first changes ++ (within ++ drop span.end changes) ≡ changes
+  parts =
+      let rest = drop span.first changes in
+      let last : drop (span.end - span.first) rest ≡ drop span.end changes =
+      drop-drop (span.end - span.first) span.first changes ∙ ap (λ n. drop n changes) (omega (arith, has.ordered)) in
+      ap (λ behind. take span.first changes ++ (within ++ behind)) (sym last)
+      ∙ (ap (λ back. take span.first changes ++ back) (take-append-drop (span.end - span.first) rest) ∙ take-append-drop span.first changes)
 
-pub Contains-behind : (changes : List Change) (first : ℕ) (change : Change) → Contains (take (length changes - first) (drop first changes)) change →
-    Contains changes change
-Contains-behind changes first change there =
-    subst (λ list. Contains list change) (take-append-drop first changes)
-    (Contains-append_right (take first changes) (drop first changes) change (subst (λ list. Contains list change) (slice_behind changes first) there))
+  -- a change in the span is one of the changes
+  pub Contains-within : (change : Change) → Contains within change → Contains changes change
+  Contains-within change there =
+      subst (λ list. Contains list change) parts
+      (Contains-append_right (take span.first changes) (within ++ drop span.end changes) change
+      (Contains-append_left within (drop span.end changes) change there))
 
--- nothing is noticed of the first changes, whose nodes agree, and are read by no part that was apart
-pub NoticesGood-behind : (changes : List Change) (first : ℕ) (owners : List (Option ℕ)) (readers : List (SmallVec ℕ)) (good bad : List Tern) (a b m n : List Bool) →
-    ((change : Change) → Contains (take first changes) change → state_at bad change.node ≡ state_at good change.node) →
-    ((change : Change) → Contains (take first changes) change → (k : ℕ) → Contains (readers_of readers change.node) k → ¬ IsMarked a k) →
-    NoticesGood (drop first changes) owners readers good bad a b m n → NoticesGood changes owners readers good bad a b m n
-NoticesGood-behind changes first owners readers good bad a b m n agree unread notices =
-    let front = take first changes in
-    let rest = drop first changes in
-    let whole : front ++ rest ≡ changes = take-append-drop first changes in
-    let cases : (change : Change) → Contains changes change → Contains front change ⊎ Contains rest change =
-    λ change there. Contains-append_cases front rest change (subst (λ list. Contains list change) (sym whole) there) in
-    record {
-      apart = record {
-        count = notices.apart.count;
-        stays = notices.apart.stays;
-        set = λ k this. elim (cases this.change this.there) [
-          | inl early ↦ absurd (this.differs (agree this.change early))
-          | inr late ↦ notices.apart.set k (record { change = this.change; there = late; differs = this.differs; concerns = this.concerns })
-        ];
-        only = λ k is. elim (notices.apart.only k is) [
-          | inl was ↦ inl was
-          | inr this ↦ inr (record {
-            change = this.change;
-            there = subst (λ list. Contains list this.change) whole (Contains-append_right front rest this.change this.there);
-            differs = this.differs;
-            concerns = this.concerns;
-          })
-        ];
-      };
-      count = notices.count;
-      stays = notices.stays;
-      entered = notices.entered;
-      wakes = λ k this is. elim (cases this.change this.there) [
-        | inl early ↦ elim (notices.entered k is) [
-          | inl was ↦ absurd (unread this.change early k this.reads was)
-          | inr marked ↦ marked
+  -- and each of the changes is in it or is far
+  in_or_far : (change : Change) → Contains changes change → Contains within change ⊎ IsOut flags change.node
+  in_or_far change there =
+      let back = within ++ drop span.end changes in
+      elim (Contains-append_cases (take span.first changes) back change (subst (λ list. Contains list change) (sym parts) there)) [
+        | inl early ↦ inr (has.before change early)
+        | inr later ↦ elim (Contains-append_cases within (drop span.end changes) change later) [
+          | inl here ↦ inl here
+          | inr late ↦ inr (has.behind change late)
         ]
-        | inr late ↦ notices.wakes k (record { change = this.change; there = late; agrees = this.agrees; reads = this.reads }) is
+      ]
+
+  -- so what is noticed of the span is noticed of all changes, if far nodes agree and are read by no part that was apart
+  pub NoticesGood-within : (owners : List (Option ℕ)) (readers : List (SmallVec ℕ)) (good bad : List Tern) (a b m n : List Bool) →
+      ((change : Change) → Contains changes change → IsOut flags change.node → state_at bad change.node ≡ state_at good change.node) →
+      ((change : Change) → Contains changes change → IsOut flags change.node →
+      (k : ℕ) → Contains (readers_of readers change.node) k → ¬ IsMarked a k) →
+      NoticesGood within owners readers good bad a b m n → NoticesGood changes owners readers good bad a b m n
+  NoticesGood-within owners readers good bad a b m n agree unread notices = record {
+    apart = record {
+      count = notices.apart.count;
+      stays = notices.apart.stays;
+      set = λ k this. elim (in_or_far this.change this.there) [
+        | inl here ↦ notices.apart.set k (record { change = this.change; there = here; differs = this.differs; concerns = this.concerns })
+        | inr far ↦ absurd (this.differs (agree this.change this.there far))
       ];
-      only = notices.only;
-    }
+      only = λ k is. elim (notices.apart.only k is) [
+        | inl was ↦ inl was
+        | inr this ↦ inr (record { change = this.change; there = Contains-within this.change this.there; differs = this.differs; concerns = this.concerns })
+      ];
+    };
+    count = notices.count;
+    stays = notices.stays;
+    entered = notices.entered;
+    wakes = λ k this is. elim (in_or_far this.change this.there) [
+      | inl here ↦ notices.wakes k (record { change = this.change; there = here; agrees = this.agrees; reads = this.reads }) is
+      | inr far ↦ elim (notices.entered k is) [
+        | inl was ↦ absurd (unread this.change this.there far k this.reads was)
+        | inr marked ↦ marked
+      ]
+    ];
+    only = notices.only;
+  }
 
 -- the changes of the good run, and then those of the run under a fault
 pub NoticesBoth-from : (changes own : List Change) (owners : List (Option ℕ)) (readers : List (SmallVec ℕ)) (good bad : List Tern) (a b c l m n : List Bool) →

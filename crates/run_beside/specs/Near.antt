@@ -1,5 +1,5 @@
 -- The nodes that are near the parts that are apart: a change of any other node is taken over, and stirs nothing.
-use Rattle.std.specs.Prelude.{◌≡◌, ℕ, ◌<◌, ◌≤◌, ◌⊎◌, ◌↔◌, ◌++◌, ◌/◌, ◌∷◌, [], Bool, true, nat_le, List, length, take, vec_capacity, Contains, Option, None, Some, slice_index, slice_index_or}
+use Rattle.std.specs.Prelude.{◌≡◌, ℕ, ◌<◌, ◌≤◌, ◌⊎◌, ◌↔◌, ◌++◌, ◌/◌, ◌∷◌, [], Bool, true, nat_le, List, length, take, drop, vec_capacity, Contains, Option, None, Some, slice_index, slice_index_or}
 use Rattle.part_words.specs.declared.change.Change.{Change}
 use Rattle.machine_parts.specs.declared.part.MachinePart.{MachinePart}
 use Rattle.machine_parts.specs.Marking.{IsMarked, MarksAll}
@@ -7,6 +7,7 @@ use Rattle.machine_parts.specs.Parts.{Stands}
 use Rattle.vicinity.specs.NodeSets.{IsIn, NodeSetData}
 use Rattle.run_beside.specs.declared.near.TheConstants.{PARTS_A_CHANGE}
 use Rattle.run_beside.specs.declared.near.Near.{Near}
+use Rattle.run_beside.specs.declared.near.NearSpan.{NearSpan}
 
 -- the node is a member of the part, or the part reads it
 abbrev pub IsOfPart : MachinePart → ℕ → Type 0
@@ -99,3 +100,10 @@ pub record StayFirst (first : ℕ) (old new : Near) : Type 0 where
   pub room : vec_capacity new.parts ≡ vec_capacity old.parts
   pub start_room : vec_capacity new.starts ≡ vec_capacity old.starts
   pub current : new.is_current ≡ old.is_current
+
+-- of these changes each outside the span is of a node that has a flag, which is unset
+pub record HasNear (flags : List Bool) (changes : List Change) (span : NearSpan) : Type 0 where
+  pub ordered : span.first ≤ span.end
+  pub inside : span.end ≤ length changes
+  pub before : (change : Change) → Contains (take span.first changes) change → IsOut flags change.node
+  pub behind : (change : Change) → Contains (drop span.end changes) change → IsOut flags change.node

@@ -5,4 +5,4 @@ pub use Rattle.run_beside.specs.Replacing.{Replaces, IsAtEnd, IsReplacement, Rep
 pub use Rattle.run_beside.specs.Following.{IsWritten, FollowsAt}
 pub use Rattle.run_beside.specs.Noticing.{IsConcerned, KeepsApart, ConcernsDiffering, ConcernsSome, Notices, NoticesChanges, NoticesGood, ReadsAgreeing}
 pub use Rattle.run_beside.specs.Stepping.{MovesBeside, RemarksBeside}
-pub use Rattle.run_beside.specs.Near.{AreNear, AreNearIn, IsFar, IsOut}
+pub use Rattle.run_beside.specs.Near.{AreNear, AreNearIn, HasNear, IsFar, IsOut}

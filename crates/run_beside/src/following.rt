@@ -1,12 +1,12 @@
 //! The good run's changes, taken over in both runs, and those of the run under a fault alone.
-ghost use Rattle.std.specs.Prelude.{◌≡◌, ℕ, ◌<◌, ◌≤◌, ◌⊎◌, Contains, Some, None, length, take, slice_index_or, slice_set};
+ghost use Rattle.std.specs.Prelude.{◌≡◌, ℕ, ◌<◌, ◌⊎◌, Contains, Some, None, length, slice_index_or, slice_set};
 ghost use Rattle.std.specs.Bool.{OnTrue, OnFalse};
 ghost use Rattle.part_words.specs.declared.change.Change.{Change};
 ghost use Rattle.machine_parts.specs.Words.{AreAgreed, IsTaken};
 ghost use Rattle.wide_groups.specs.Awake.{IsListedIn, TurnedIn};
-ghost use Rattle.run_beside.specs.Words.{IsWritten, FollowsAt, IsOut};
+ghost use Rattle.run_beside.specs.Words.{HasNear, IsWritten, FollowsAt, IsOut};
 
-use crate::near::is_out;
+use crate::near::{NearSpan, is_out};
 use part_words::Change;
 use ternary::Tern;
 use vicinity::{NodeSet, Wide};
@@ -26,8 +26,8 @@ pub fn does_follow(owners: &[Option<usize>], apart: &NodeSet, node: usize) -> bo
 }
 
 /// Takes over the changes of a step of the good run: the good state has them all, and the state under the fault
-/// those of the nodes that follow. Those whose flag is unset do. Answers how many changes stand in front of the first
-/// whose node has no flag that is unset.
+/// those of the nodes that follow. Those whose flag is unset do. Answers where those changes stand whose node's flag isn't
+/// unset.
 pub fn follow(
     changes: &[Change],
     owners: &[Option<usize>],
@@ -36,7 +36,7 @@ pub fn follow(
     good: &mut [Tern],
     bad: &mut [Tern],
     wide: &mut Option<Wide>,
-) -> usize
+) -> NearSpan
     requires inside { (change : Change) → Contains changes.now change → change.node < length good.old }
     requires agreed { AreAgreed changes.now }
     requires counted { length bad.old ≡ length good.old }
@@ -44,20 +44,22 @@ pub fn follow(
     requires owners { (n k : ℕ) → slice_index_or owners.now n None ≡ Some k → k < length apart.now.inside }
     requires far { (node : ℕ) → IsOut near.now node → node < length good.old → FollowsAt owners.now apart.now.inside node }
     requires wide { IsListedIn bad.old wide.old }
-    ensures few { result ≤ length changes.now }
-    ensures far { (change : Change) → Contains (take result changes.now) change → IsOut near.now change.node }
+    ensures span { HasNear near.now changes.now result }
     ensures good { IsTaken changes.now good.old good.new }
     ensures bad { IsWritten (FollowsAt owners.now apart.now.inside) changes.now bad.old bad.new }
     ensures turned { TurnedIn wide.old wide.new bad.old bad.new }
 {
     let mut first = changes.len();
+    let mut end = first;
     for (k, change) in changes.iter().enumerate() {
+        let change = *change;
         good[change.node] = change.value;
-        if !follow_one(*change, owners, apart, near, bad, wide) {
+        if !follow_one(change, owners, apart, near, bad, wide) {
             first = first.min(k);
+            end = k + 1;
         }
     }
-    first
+    NearSpan { first, end }
 }
 
 // Writes a change if its node follows, and answers whether the node's flag is unset.

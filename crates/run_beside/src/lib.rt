@@ -34,6 +34,6 @@ pub use laws::{
     agreeing_groups_move_alike, replacements_add_up, runs_stay_beside, settled_states_stay,
     steps_by_difference, steps_keep_apart,
 };
-pub use near::{Near, PARTS_A_CHANGE, is_out, know_near, look_near, near_flags};
+pub use near::{Near, NearSpan, PARTS_A_CHANGE, is_out, know_near, look_near, near_flags};
 pub use noticing::{notice, notice_near};
 pub use stepping::advance_beside;

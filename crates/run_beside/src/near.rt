@@ -17,6 +17,13 @@ use vicinity::NodeSet;
 /// less than what is spared at a change.
 pub const PARTS_A_CHANGE: usize = 4;
 
+/// Where among the changes of a step those stand whose node may be near: from `first` on and before `end`. All others are far.
+#[derive(Clone, Copy)]
+pub struct NearSpan {
+    pub first: usize,
+    pub end: usize,
+}
+
 /// The nodes that are near some parts: those without an owner, those that one of these parts has as a member, and those that
 /// one of them reads.
 ///

@@ -1,12 +1,12 @@
 //! Which parts are apart after some changes, and which of them may move in the next step.
-ghost use Rattle.std.specs.Prelude.{◌≡◌, ◌≢◌, ℕ, ◌<◌, ◌≤◌, Contains, Some, length, take};
+ghost use Rattle.std.specs.Prelude.{◌≡◌, ◌≢◌, ℕ, ◌<◌, Contains, Some, length};
 ghost use Rattle.std.specs.Bool.{OnTrue, OnFalse};
 ghost use Rattle.switch_paths.specs.Switching.{state_at};
 ghost use Rattle.part_words.specs.declared.change.Change.{Change};
 ghost use Rattle.machine_parts.specs.Words.{IsMarked, readers_of};
-ghost use Rattle.run_beside.specs.Words.{IsConcerned, ConcernsDiffering, IsOut, Notices, NoticesChanges, NoticesGood, ReadsAgreeing};
+ghost use Rattle.run_beside.specs.Words.{HasNear, IsConcerned, ConcernsDiffering, IsOut, Notices, NoticesChanges, NoticesGood, ReadsAgreeing};
 
-use crate::near::is_out;
+use crate::near::{NearSpan, is_out};
 use part_steps::{Agenda, ReaderLists};
 use part_words::Change;
 use ternary::Tern;
@@ -40,10 +40,10 @@ pub fn notice(
 /// Of these changes' nodes, which the good run changed, each that differs puts the parts apart that it concerns, and marks those that
 /// weren't: it didn't follow, so to those that were apart it is new only if the run under a fault changed it, which `notice` is told of.
 /// Each that agrees marks the parts that are apart and read it. Nodes whose flag is unset aren't looked at: these agree, and no part
-/// that is apart reads them. So are the nodes of the first changes, so many, which are passed all at once.
+/// that is apart reads them. All changes outside the span are such, and are passed at once.
 pub fn notice_near(
     changes: &[Change],
-    first: usize,
+    span: NearSpan,
     owners: &[Option<usize>],
     readers: &ReaderLists,
     near: &[bool],
@@ -52,8 +52,7 @@ pub fn notice_near(
     apart: &mut NodeSet,
     agenda: &mut Agenda,
 )
-    requires first { first ≤ length changes.now }
-    requires far { (change : Change) → Contains (take first changes.now) change → IsOut near.now change.node }
+    requires span { HasNear near.now changes.now span }
     requires inside { (change : Change) → Contains changes.now change → change.node < length good.now }
     requires counted { length bad.now ≡ length good.now }
     requires owned { length owners.now ≡ length good.now }
@@ -67,7 +66,7 @@ pub fn notice_near(
     ensures waiting { agenda.new.waiting ≡ agenda.old.waiting }
 {
     notice_those(
-        &changes[first..],
+        &changes[span.first..span.end],
         owners,
         readers,
         near,

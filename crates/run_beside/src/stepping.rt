@@ -84,12 +84,12 @@ pub fn advance_beside<L: Ledger>(
     calm(joining, wide);
     look_near(changes, parts, apart, near);
     let flags = near_flags(near);
-    let first = follow(changes, owners, apart, flags, good, bad, wide);
+    let span = follow(changes, owners, apart, flags, good, bad, wide);
     write_all(&workspace.changes, bad, wide);
     write_all(noted, bad, wide);
     touched_is_listed(wide);
     notice_near(
-        changes, first, owners, readers, flags, good, bad, apart, agenda,
+        changes, span, owners, readers, flags, good, bad, apart, agenda,
     );
     notice(
         &workspace.changes,

@@ -1,5 +1,5 @@
 -- One change more is taken over in both runs.
-use Rattle.std.proofs.Common.{◌<◌, ◌≤◌, inl, inr, get_or, refl, sym, ap, subst, arith}
+use Rattle.std.proofs.Common.{true, ℕ, ◌≡◌, ◌<◌, inl, inr, get_or, refl, sym, ap, subst, arith}
 use Rattle.std.specs.Prelude.{length}
 use Rattle.std.proofs.lemmas.Bool.{cases_eq, OnTrue_at}
 use Rattle.std.proofs.lemmas.List.{get_or_default}
@@ -9,15 +9,17 @@ use Rattle.wide_groups.proofs.WideCases.{TurnedIn-none, TurnedIn-then, listed_tu
 use Rattle.part_advance.proofs.NextChange.{default_change, next_inside}
 use Rattle.run_beside.specs.Following.{IsWritten, FollowsAt}
 use Rattle.run_beside.specs.Near.{IsOut}
-use Rattle.run_beside.proofs.NearFront.{first_is_out}
+use Rattle.run_beside.proofs.NearFront.{first_is_out, last_is_out}
 use Rattle.run_beside.proofs.WritingLemmas.{written, passed, none_twice-written}
 use Rattle.run_beside.proofs.following.follow.Goals.{then-not-follow_one, else-not-follow_one}
 use Rattle.run_beside.proofs.following.follow.Goals as goal
 
 pub loop-k-init : goal.loop-k-init
 loop-k-init c = record {
-  few = omega arith;
-  far = λ j before. absurd (omega (arith, before));
+  ordered = omega arith;
+  inside = omega arith;
+  before = λ j early. absurd (omega (arith, early));
+  behind = λ j early. absurd (omega (arith, early));
   good = record { count = refl; taken = λ change there. absurd (omega (arith, there.1)); stays = λ node none. refl };
   bad = record { count = refl; taken = λ change there asked. absurd (omega (arith, there.1)); stays = λ node none. refl };
   turned = TurnedIn-none c.args.wide.now c.args.bad.now;
@@ -54,20 +56,31 @@ loop-k-preserved c =
           (none_twice-written Follows changes i change c.args.bad.now c.loop-k.bad test is c.loop-k.invariant.bad c.requires.agreed in_bad)
       | inr (stays, same) ↦ λ node. inr (ap (λ states. state_at states node) same)
     ] in
-    let no_later : c.if-not-follow_one.first ≤ c.loop-k.first = elim c.if-not-follow_one.branch [
-      | then-not-follow_one w ↦ omega (arith, w.first-is, w.min-first.ensures)
-      | else-not-follow_one w ↦ omega (arith, w.first-is)
-    ] in
+    let here : c.follow_one.result ≡ true → (j : ℕ) → j ≡ i → IsOut c.args.near.now (get_or changes j default_change).node =
+    λ far j same. subst (λ place. IsOut c.args.near.now (get_or changes place default_change).node) (sym same) (OnTrue_at far c.follow_one.ensures.far) in
     record {
-      few = omega (arith, no_later, c.loop-k.invariant.few);
-      far = λ j before early. elim (cases_eq j i) [
-        | inl same ↦ elim c.if-not-follow_one.branch [
-          | then-not-follow_one w ↦ absurd (omega (arith, early, same, w.first-is, w.min-first.ensures))
-          | else-not-follow_one w ↦
-              subst (λ place. IsOut c.args.near.now (get_or changes place default_change).node) (sym same)
-              (OnTrue_at w.if-not-follow_one.false c.follow_one.ensures.far)
+      ordered = elim c.if-not-follow_one.branch [
+        | then-not-follow_one w ↦ omega (arith, w.first-is, w.end-is, w.min-first.ensures)
+        | else-not-follow_one w ↦ omega (arith, w.first-is, w.end-is, c.loop-k.invariant.ordered)
+      ];
+      inside = elim c.if-not-follow_one.branch [
+        | then-not-follow_one w ↦ omega (arith, w.end-is, test)
+        | else-not-follow_one w ↦ omega (arith, w.end-is, c.loop-k.invariant.inside)
+      ];
+      before = λ j passed early. elim c.if-not-follow_one.branch [
+        | then-not-follow_one w ↦
+            c.loop-k.invariant.before j (omega (arith, early, w.first-is, w.min-first.ensures)) (omega (arith, early, w.first-is, w.min-first.ensures))
+        | else-not-follow_one w ↦ elim (cases_eq j i) [
+          | inl same ↦ here w.if-not-follow_one.false j same
+          | inr differs ↦ c.loop-k.invariant.before j (omega (arith, passed, differs)) (omega (arith, early, w.first-is))
         ]
-        | inr differs ↦ c.loop-k.invariant.far j (omega (arith, before, differs)) (omega (arith, early, no_later))
+      ];
+      behind = λ j passed late. elim c.if-not-follow_one.branch [
+        | then-not-follow_one w ↦ absurd (omega (arith, passed, late, w.end-is))
+        | else-not-follow_one w ↦ elim (cases_eq j i) [
+          | inl same ↦ here w.if-not-follow_one.false j same
+          | inr differs ↦ c.loop-k.invariant.behind j (omega (arith, passed, differs)) (omega (arith, late, w.end-is))
+        ]
       ];
       good = IsTaken-more changes i default_change c.args.good.now c.loop-k.good test inside c.requires.agreed c.loop-k.invariant.good;
       bad = elim c.follow_one.ensures.bad [
@@ -82,7 +95,13 @@ loop-k-preserved c =
           c.loop-k.invariant.turned c.follow_one.ensures.turned;
     }
 
-pub returns-clause-far : goal.returns-clause-far
-returns-clause-far c change there =
-    first_is_out c.args.near.now c.args.changes.now c.loop-k.first
-    (λ j inside early. c.loop-k.invariant.far j (omega (arith, inside, c.loop-k-test.false)) early) change there
+pub returns-clause-span : goal.returns-clause-span
+returns-clause-span c =
+    let so_far = c.loop-k.invariant in
+    let over = c.loop-k-test.false in
+    record {
+      ordered = so_far.ordered;
+      inside = so_far.inside;
+      before = first_is_out c.args.near.now c.args.changes.now c.loop-k.first (λ j inside early. so_far.before j (omega (arith, inside, over)) early);
+      behind = last_is_out c.args.near.now c.args.changes.now c.loop-k.end (λ j inside late. so_far.behind j (omega (arith, inside, over)) late);
+    }

@@ -9,8 +9,10 @@ use Rattle.run_beside.proofs.following.follow.Given as goal
 
 abbrev pub invariant-loop-k : goal.invariant-loop-k
 invariant-loop-k l = record {
-  few : l.first ≤ length l.changes;
-  far : (j : ℕ) → j < l.k → j < l.first → IsOut l.near (get_or l.changes j default_change).node;
+  ordered : l.first ≤ l.end;
+  inside : l.end ≤ length l.changes;
+  before : (j : ℕ) → j < l.k → j < l.first → IsOut l.near (get_or l.changes j default_change).node;
+  behind : (j : ℕ) → j < l.k → l.end ≤ j → IsOut l.near (get_or l.changes j default_change).node;
   good : IsTaken (take l.k l.changes) l.fn.good l.good;
   bad : IsWritten (FollowsAt l.owners l.apart.inside) (take l.k l.changes) l.fn.bad l.bad;
   turned : TurnedIn l.fn.wide l.wide l.fn.bad l.bad;

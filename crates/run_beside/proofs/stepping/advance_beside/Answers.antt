@@ -29,7 +29,7 @@ use Rattle.run_beside.proofs.NoticingLemmas.{NoticesBoth-from, NoticesChanges-th
 use Rattle.run_beside.proofs.KeepingApart.{steps_keep}
 use Rattle.run_beside.proofs.AdvancingLemmas.{once, moves_beside, own_moves, still_beside, remarks_beside}
 use Rattle.run_beside.proofs.stepping.advance_beside.Given.{Over}
-use Rattle.run_beside.proofs.stepping.advance_beside.Goals.{After-evaluate_awake, After-calm, After-look_near, After-follow-first, After-write_all, After-write_all-2, After-notice-2}
+use Rattle.run_beside.proofs.stepping.advance_beside.Goals.{After-evaluate_awake, After-calm, After-look_near, After-follow-span, After-write_all, After-write_all-2, After-notice-2}
 use Rattle.run_beside.proofs.stepping.advance_beside.Goals as goal
 
 pub evaluate_all-requires : goal.evaluate_all-requires
@@ -99,9 +99,9 @@ follows_far g c node far inside =
     far_follows c.args.parts.now (length c.args.bad.now) c.args.owners.now c.requires.owners c.args.changes.now c.args.apart.now c.look_near.new.near
     (are_near g c) c.look_near.ensures.tells node (omega (arith, inside, c.requires.owners.counted)) far
 
-pub follow-first-requires : goal.follow-first-requires
-follow-first-requires g c =
-    let at_end = goal.at.follow-first-requires g c in
+pub follow-span-requires : goal.follow-span-requires
+follow-span-requires g c =
+    let at_end = goal.at.follow-span-requires g c in
     record {
       inside = c.requires.inside;
       agreed = c.requires.agreed;
@@ -114,9 +114,9 @@ follow-first-requires g c =
     }
 
 -- and so they are after the good run's
-follow_listed : (g : Over) (c : After-follow-first g) → IsListedIn c.args.bad.now c.calm.new.wide → IsListedIn c.follow-first.new.bad c.follow-first.new.wide
+follow_listed : (g : Over) (c : After-follow-span g) → IsListedIn c.args.bad.now c.calm.new.wide → IsListedIn c.follow-span.new.bad c.follow-span.new.wide
 follow_listed g c listed =
-    listed_turned c.calm.new.wide c.follow-first.new.wide c.args.bad.now c.follow-first.new.bad c.follow-first.ensures.turned c.follow-first.ensures.bad.count listed
+    listed_turned c.calm.new.wide c.follow-span.new.wide c.args.bad.now c.follow-span.new.bad c.follow-span.ensures.turned c.follow-span.ensures.bad.count listed
 
 pub write_all-requires : goal.write_all-requires
 write_all-requires g c =
@@ -127,14 +127,14 @@ write_all-requires g c =
       inside = λ change there.
           let inside = inside_all g at_end.After-evaluate_awake change
           (Contains-append_left xs ys change (subst (λ list. Contains list change) c.deref-2.ensures.value there)) in
-          omega (arith, inside, c.follow-first.ensures.bad.count);
+          omega (arith, inside, c.follow-span.ensures.bad.count);
       agreed = subst AreAgreed (sym c.deref-2.ensures.value) (agreed_left xs ys (agreed_all g at_end.After-evaluate_awake));
-      wide = follow_listed g at_end.After-follow-first (calm_listed g at_end.After-calm);
+      wide = follow_listed g at_end.After-follow-span (calm_listed g at_end.After-calm);
     }
 
 -- the first changes are written, and the others after them
-first_taken : (g : Over) (c : After-write_all g) → IsTaken c.evaluate_all.new.workspace.changes.items c.follow-first.new.bad c.write_all.new.state
-first_taken g c = subst (λ xs. IsTaken xs c.follow-first.new.bad c.write_all.new.state) c.deref-2.ensures.value c.write_all.ensures.taken
+first_taken : (g : Over) (c : After-write_all g) → IsTaken c.evaluate_all.new.workspace.changes.items c.follow-span.new.bad c.write_all.new.state
+first_taken g c = subst (λ xs. IsTaken xs c.follow-span.new.bad c.write_all.new.state) c.deref-2.ensures.value c.write_all.ensures.taken
 
 pub write_all-requires-2 : goal.write_all-requires-2
 write_all-requires-2 g c =
@@ -146,18 +146,18 @@ write_all-requires-2 g c =
       inside = λ change there.
           let inside = inside_all g at_end.After-evaluate_awake change
           (Contains-append_right xs ys change (subst (λ list. Contains list change) c.deref-3.ensures.value there)) in
-          omega (arith, inside, count, c.follow-first.ensures.bad.count);
+          omega (arith, inside, count, c.follow-span.ensures.bad.count);
       agreed = subst AreAgreed (sym c.deref-3.ensures.value) (agreed_right xs ys (agreed_all g at_end.After-evaluate_awake));
-      wide = listed_turned c.follow-first.new.wide c.write_all.new.wide c.follow-first.new.bad c.write_all.new.state c.write_all.ensures.turned count
-          (follow_listed g at_end.After-follow-first (calm_listed g at_end.After-calm));
+      wide = listed_turned c.follow-span.new.wide c.write_all.new.wide c.follow-span.new.bad c.write_all.new.state c.write_all.ensures.turned count
+          (follow_listed g at_end.After-follow-span (calm_listed g at_end.After-calm));
     }
 
 -- all of them are written
 own_taken : (g : Over) (c : After-write_all-2 g) → AreAgreed (c.evaluate_all.new.workspace.changes.items ++ c.evaluate_awake.new.noted.items) →
-    IsTaken c.evaluate_all.new.workspace.changes.items c.follow-first.new.bad c.write_all.new.state →
-    IsTaken (c.evaluate_all.new.workspace.changes.items ++ c.evaluate_awake.new.noted.items) c.follow-first.new.bad c.write_all-2.new.state
+    IsTaken c.evaluate_all.new.workspace.changes.items c.follow-span.new.bad c.write_all.new.state →
+    IsTaken (c.evaluate_all.new.workspace.changes.items ++ c.evaluate_awake.new.noted.items) c.follow-span.new.bad c.write_all-2.new.state
 own_taken g c agreed first =
-    IsTaken-then c.evaluate_all.new.workspace.changes.items c.evaluate_awake.new.noted.items c.follow-first.new.bad c.write_all.new.state
+    IsTaken-then c.evaluate_all.new.workspace.changes.items c.evaluate_awake.new.noted.items c.follow-span.new.bad c.write_all.new.state
     c.write_all-2.new.state
     agreed first (subst (λ ys. IsTaken ys c.write_all.new.state c.write_all-2.new.state) c.deref-3.ensures.value c.write_all-2.ensures.taken)
 
@@ -180,22 +180,21 @@ notice_near-requires g c =
     let own = own_taken g at_end.After-write_all-2 (agreed_all g at_end.After-evaluate_awake) (first_taken g at_end.After-write_all) in
     let moves = moves_beside c.args.joining c.args.parts.now c.args.agenda.now.marks c.args.agenda.now.waiting c.args.bad.now c.args.readers.now
     (rooms c.args.workspace.now) c.requires.runnable c.args.wide.now _ c.requires.wide c.waiting_parts_are_marked.ensures c.args.owners.now c.requires.owners
-    c.args.apart.now.inside c.requires.marked _ (are_changes g at_end.After-evaluate_awake) c.args.changes.now c.follow-first.new.bad c.write_all-2.new.state
-    c.follow-first.ensures.bad own in
+    c.args.apart.now.inside c.requires.marked _ (are_changes g at_end.After-evaluate_awake) c.args.changes.now c.follow-span.new.bad c.write_all-2.new.state
+    c.follow-span.ensures.bad own in
     record {
-      first = c.follow-first.ensures.few;
-      far = c.follow-first.ensures.far;
-      inside = λ change there. omega (arith, c.requires.inside change there, c.follow-first.ensures.good.count);
-      counted = omega (arith, own.count, c.follow-first.ensures.bad.count, c.follow-first.ensures.good.count, c.requires.counted);
-      owned = omega (arith, c.requires.owners.counted, c.follow-first.ensures.good.count, c.requires.counted);
-      read = omega (arith, c.requires.runnable.readers_counted, c.follow-first.ensures.good.count, c.requires.counted);
+      span = c.follow-span.ensures.span;
+      inside = λ change there. omega (arith, c.requires.inside change there, c.follow-span.ensures.good.count);
+      counted = omega (arith, own.count, c.follow-span.ensures.bad.count, c.follow-span.ensures.good.count, c.requires.counted);
+      owned = omega (arith, c.requires.owners.counted, c.follow-span.ensures.good.count, c.requires.counted);
+      read = omega (arith, c.requires.runnable.readers_counted, c.follow-span.ensures.good.count, c.requires.counted);
       parts = parts_there g at_end.After-write_all-2;
       marks = marks_there g at_end.After-write_all-2;
       agrees = λ change there out.
           let far = c.near_flags-flags.ensures change.node out in
           let inside : change.node < length c.args.bad.now = omega (arith, c.requires.inside change there, c.requires.counted) in
           moves.follows change there (follows_far g at_end.After-look_near change.node far inside)
-          ∙ sym (c.follow-first.ensures.good.taken change there);
+          ∙ sym (c.follow-span.ensures.good.taken change there);
       unread = λ change there out.
           let far = c.near_flags-flags.ensures change.node out in
           far_unread c.args.parts.now c.args.agenda.now.marks c.args.agenda.now.waiting (length c.args.bad.now) c.args.readers.now (rooms c.args.workspace.now)
@@ -214,10 +213,10 @@ notice-requires g c =
       inside = λ change there.
           let inside = inside_all g at_end.After-evaluate_awake change
           (Contains-append_left xs ys change (subst (λ list. Contains list change) c.deref-4.ensures.value there)) in
-          omega (arith, inside, c.follow-first.ensures.good.count, c.requires.counted);
-      counted = omega (arith, own.count, c.follow-first.ensures.bad.count, c.follow-first.ensures.good.count, c.requires.counted);
-      owned = omega (arith, c.requires.owners.counted, c.follow-first.ensures.good.count, c.requires.counted);
-      read = omega (arith, c.requires.runnable.readers_counted, c.follow-first.ensures.good.count, c.requires.counted);
+          omega (arith, inside, c.follow-span.ensures.good.count, c.requires.counted);
+      counted = omega (arith, own.count, c.follow-span.ensures.bad.count, c.follow-span.ensures.good.count, c.requires.counted);
+      owned = omega (arith, c.requires.owners.counted, c.follow-span.ensures.good.count, c.requires.counted);
+      read = omega (arith, c.requires.runnable.readers_counted, c.follow-span.ensures.good.count, c.requires.counted);
       parts = λ node k concerns. omega (arith, parts_there g at_end.After-write_all-2 node k concerns, before.apart.count);
       marks = omega (arith, marks_there g at_end.After-write_all-2, before.apart.count, before.count);
     }
@@ -234,10 +233,10 @@ notice-requires-2 g c =
       inside = λ change there.
           let inside = inside_all g at_end.After-evaluate_awake change
           (Contains-append_right xs ys change (subst (λ list. Contains list change) c.deref-5.ensures.value there)) in
-          omega (arith, inside, c.follow-first.ensures.good.count, c.requires.counted);
-      counted = omega (arith, own.count, c.follow-first.ensures.bad.count, c.follow-first.ensures.good.count, c.requires.counted);
-      owned = omega (arith, c.requires.owners.counted, c.follow-first.ensures.good.count, c.requires.counted);
-      read = omega (arith, c.requires.runnable.readers_counted, c.follow-first.ensures.good.count, c.requires.counted);
+          omega (arith, inside, c.follow-span.ensures.good.count, c.requires.counted);
+      counted = omega (arith, own.count, c.follow-span.ensures.bad.count, c.follow-span.ensures.good.count, c.requires.counted);
+      owned = omega (arith, c.requires.owners.counted, c.follow-span.ensures.good.count, c.requires.counted);
+      read = omega (arith, c.requires.runnable.readers_counted, c.follow-span.ensures.good.count, c.requires.counted);
       parts = λ node k concerns. omega (arith, parts_there g at_end.After-write_all-2 node k concerns, before.apart.count, then.apart.count);
       marks = omega (arith, marks_there g at_end.After-write_all-2, before.apart.count, before.count, then.apart.count, then.count);
     }
@@ -245,11 +244,11 @@ notice-requires-2 g c =
 -- what is noticed of all changes
 all_noticed : (g : Over) (c : After-notice-2 g) →
     NoticesBoth c.args.changes.now (c.evaluate_all.new.workspace.changes.items ++ c.evaluate_awake.new.noted.items) c.args.owners.now c.args.readers.now
-    c.follow-first.new.good c.write_all-2.new.state c.args.apart.now.inside c.notice-2.new.apart.inside c.mark_again.new.agenda.marks c.notice-2.new.agenda.marks
+    c.follow-span.new.good c.write_all-2.new.state c.args.apart.now.inside c.notice-2.new.apart.inside c.mark_again.new.agenda.marks c.notice-2.new.agenda.marks
 all_noticed g c =
     let owners = c.args.owners.now in
     let readers = c.args.readers.now in
-    let good = c.follow-first.new.good in
+    let good = c.follow-span.new.good in
     let bad = c.write_all-2.new.state in
     let xs = c.evaluate_all.new.workspace.changes.items in
     let ys = c.evaluate_awake.new.noted.items in
@@ -261,28 +260,28 @@ all_noticed g c =
     c.notice_near.new.agenda.marks c.notice.new.agenda.marks c.notice-2.new.agenda.marks two three)
 
 pub returns-clause-good : goal.returns-clause-good
-returns-clause-good g c = c.follow-first.ensures.good
+returns-clause-good g c = c.follow-span.ensures.good
 
 pub returns-clause-moves : goal.returns-clause-moves
 returns-clause-moves g c =
     let at_end = goal.at.returns-clause-moves g c in
     moves_beside c.args.joining c.args.parts.now c.args.agenda.now.marks c.args.agenda.now.waiting c.args.bad.now c.args.readers.now (rooms c.args.workspace.now)
     c.requires.runnable c.args.wide.now _ c.requires.wide c.waiting_parts_are_marked.ensures c.args.owners.now c.requires.owners c.args.apart.now.inside
-    c.requires.marked _ (are_changes g at_end.After-evaluate_awake) c.args.changes.now c.follow-first.new.bad c.write_all-2.new.state c.follow-first.ensures.bad
+    c.requires.marked _ (are_changes g at_end.After-evaluate_awake) c.args.changes.now c.follow-span.new.bad c.write_all-2.new.state c.follow-span.ensures.bad
     (own_taken g at_end.After-write_all-2 (agreed_all g at_end.After-evaluate_awake) (first_taken g at_end.After-write_all))
 
 -- all changes together turn the lists
 all_turned : (g : Over) (c : After-write_all-2 g) → After-evaluate_awake g → AreAgreed (c.evaluate_all.new.workspace.changes.items ++ c.evaluate_awake.new.noted.items) →
-    IsTaken c.evaluate_all.new.workspace.changes.items c.follow-first.new.bad c.write_all.new.state → NoneTwice c.args.bad.now c.follow-first.new.bad c.write_all-2.new.state →
+    IsTaken c.evaluate_all.new.workspace.changes.items c.follow-span.new.bad c.write_all.new.state → NoneTwice c.args.bad.now c.follow-span.new.bad c.write_all-2.new.state →
     TurnedIn c.calm.new.wide c.write_all-2.new.wide c.args.bad.now c.write_all-2.new.state
 all_turned g c noted agreed first once_all =
     let xs = c.evaluate_all.new.workspace.changes.items in
     let ys = c.evaluate_awake.new.noted.items in
     let next = subst (λ ys. IsTaken ys c.write_all.new.state c.write_all-2.new.state) c.deref-3.ensures.value c.write_all-2.ensures.taken in
-    TurnedIn-then c.calm.new.wide c.follow-first.new.wide c.write_all-2.new.wide c.args.bad.now c.follow-first.new.bad c.write_all-2.new.state once_all
-    c.follow-first.ensures.turned
-    (TurnedIn-then c.follow-first.new.wide c.write_all.new.wide c.write_all-2.new.wide c.follow-first.new.bad c.write_all.new.state c.write_all-2.new.state
-    (none_twice xs ys c.follow-first.new.bad c.write_all.new.state c.write_all-2.new.state
+    TurnedIn-then c.calm.new.wide c.follow-span.new.wide c.write_all-2.new.wide c.args.bad.now c.follow-span.new.bad c.write_all-2.new.state once_all
+    c.follow-span.ensures.turned
+    (TurnedIn-then c.follow-span.new.wide c.write_all.new.wide c.write_all-2.new.wide c.follow-span.new.bad c.write_all.new.state c.write_all-2.new.state
+    (none_twice xs ys c.follow-span.new.bad c.write_all.new.state c.write_all-2.new.state
     (λ one two here there. agreed one two (Contains-append_left xs ys one here) (Contains-append_right xs ys two there)) first next)
     c.write_all.ensures.turned c.write_all-2.ensures.turned)
 
@@ -293,8 +292,8 @@ returns-clause-retouches g c =
     let first = first_taken g at_end.After-write_all in
     let once_all = once c.args.joining c.args.parts.now c.args.agenda.now.marks c.args.agenda.now.waiting c.args.bad.now c.args.readers.now
     (rooms c.args.workspace.now) c.requires.runnable c.args.wide.now _ c.requires.wide c.waiting_parts_are_marked.ensures c.args.owners.now c.requires.owners
-    c.args.apart.now.inside c.requires.marked _ (are_changes g at_end.After-evaluate_awake) c.args.changes.now c.follow-first.new.bad c.write_all-2.new.state
-    c.follow-first.ensures.bad (own_taken g at_end.After-write_all-2 agreed first) in
+    c.args.apart.now.inside c.requires.marked _ (are_changes g at_end.After-evaluate_awake) c.args.changes.now c.follow-span.new.bad c.write_all-2.new.state
+    c.follow-span.ensures.bad (own_taken g at_end.After-write_all-2 agreed first) in
     RetouchesIn-from c.args.joining c.args.wide.now c.calm.new.wide c.write_all-2.new.wide c.args.bad.now c.write_all-2.new.state
     (subst ListsIn c.evaluate_awake.ensures.same c.touched_is_listed.ensures)
     (subst (λ (wide : Option WideData). CalmsIn c.args.joining wide c.calm.new.wide) c.evaluate_awake.ensures.same c.calm.ensures)
@@ -308,11 +307,11 @@ returns-clause-holds g c =
     let agreed = agreed_all g at_end.After-evaluate_awake in
     let first = first_taken g at_end.After-write_all in
     let own = own_taken g at_end.After-write_all-2 agreed first in
-    let count : length new ≡ length old = own.count ∙ c.follow-first.ensures.bad.count in
+    let count : length new ≡ length old = own.count ∙ c.follow-span.ensures.bad.count in
     let once_all = once c.args.joining c.args.parts.now c.args.agenda.now.marks c.args.agenda.now.waiting old c.args.readers.now
     (rooms c.args.workspace.now) c.requires.runnable c.args.wide.now _ c.requires.wide c.waiting_parts_are_marked.ensures c.args.owners.now c.requires.owners
-    c.args.apart.now.inside c.requires.marked _ (are_changes g at_end.After-evaluate_awake) c.args.changes.now c.follow-first.new.bad new
-    c.follow-first.ensures.bad own in
+    c.args.apart.now.inside c.requires.marked _ (are_changes g at_end.After-evaluate_awake) c.args.changes.now c.follow-span.new.bad new
+    c.follow-span.ensures.bad own in
     let turned = all_turned g at_end.After-write_all-2 at_end.After-evaluate_awake agreed first once_all in
     let listed : IsListedIn new c.write_all-2.new.wide =
     listed_turned c.calm.new.wide c.write_all-2.new.wide old new turned count (calm_listed g at_end.After-calm) in
@@ -328,8 +327,8 @@ pub returns-clause-kept : goal.returns-clause-kept
 returns-clause-kept g c =
     let at_end = goal.at.returns-clause-kept g c in
     steps_keep c.args.owners.now c.args.readers.now c.args.apart.now.inside c.notice-2.new.apart.inside c.args.changes.now
-    (c.evaluate_all.new.workspace.changes.items ++ c.evaluate_awake.new.noted.items) c.args.good.now c.follow-first.new.good c.args.bad.now c.follow-first.new.bad
-    c.write_all-2.new.state c.requires.kept c.follow-first.ensures.good c.follow-first.ensures.bad
+    (c.evaluate_all.new.workspace.changes.items ++ c.evaluate_awake.new.noted.items) c.args.good.now c.follow-span.new.good c.args.bad.now c.follow-span.new.bad
+    c.write_all-2.new.state c.requires.kept c.follow-span.ensures.good c.follow-span.ensures.bad
     (own_taken g at_end.After-write_all-2 (agreed_all g at_end.After-evaluate_awake) (first_taken g at_end.After-write_all))
     (all_noticed g at_end.After-notice-2).apart
 
@@ -341,11 +340,11 @@ returns-clause-marks g c =
     c.deref.ensures.value c.mark_again.ensures.marks in
     remarks_beside c.args.joining c.args.parts.now c.args.agenda.now.marks c.args.agenda.now.waiting c.args.bad.now c.args.readers.now (rooms c.args.workspace.now)
     c.requires.runnable c.args.wide.now _ c.requires.wide c.waiting_parts_are_marked.ensures c.args.owners.now c.requires.owners c.args.apart.now.inside
-    c.requires.marked _ (are_changes g at_end.After-evaluate_awake) c.args.changes.now c.follow-first.new.bad c.write_all-2.new.state c.follow-first.ensures.bad
+    c.requires.marked _ (are_changes g at_end.After-evaluate_awake) c.args.changes.now c.follow-span.new.bad c.write_all-2.new.state c.follow-span.ensures.bad
     (own_taken g at_end.After-write_all-2 (agreed_all g at_end.After-evaluate_awake) (first_taken g at_end.After-write_all))
     c.evaluate_all.new.agenda.marks c.mark_again.new.agenda.marks c.notice-2.new.agenda.marks c.notice-2.new.apart.inside
-    c.evaluate_all.new.workspace.changes.items c.evaluate_all.new.workspace.done.items c.args.good.now c.follow-first.new.good e.evaluated e.count again
-    c.follow-first.ensures.good (all_noticed g at_end.After-notice-2)
+    c.evaluate_all.new.workspace.changes.items c.evaluate_all.new.workspace.done.items c.args.good.now c.follow-span.new.good e.evaluated e.count again
+    c.follow-span.ensures.good (all_noticed g at_end.After-notice-2)
 
 pub returns-clause-near : goal.returns-clause-near
 returns-clause-near g c = c.look_near.ensures.near c.args.owners.now c.requires.near
@@ -373,8 +372,8 @@ returns-clause-changed g c =
     let ys = c.evaluate_awake.new.noted.items in
     let changes_it = own_moves c.args.joining c.args.parts.now c.args.agenda.now.marks c.args.agenda.now.waiting c.args.bad.now c.args.readers.now
     (rooms c.args.workspace.now) c.requires.runnable c.args.wide.now _ c.requires.wide c.waiting_parts_are_marked.ensures c.args.owners.now c.requires.owners
-    c.args.apart.now.inside c.requires.marked _ (are_changes g at_end.After-evaluate_awake) c.args.changes.now c.follow-first.new.bad c.write_all-2.new.state
-    c.follow-first.ensures.bad (own_taken g at_end.After-write_all-2 (agreed_all g at_end.After-evaluate_awake) (first_taken g at_end.After-write_all)) in
+    c.args.apart.now.inside c.requires.marked _ (are_changes g at_end.After-evaluate_awake) c.args.changes.now c.follow-span.new.bad c.write_all-2.new.state
+    c.follow-span.ensures.bad (own_taken g at_end.After-write_all-2 (agreed_all g at_end.After-evaluate_awake) (first_taken g at_end.After-write_all)) in
     let some : OnTrue c.is_any.result ((0 < length xs) ⊎ (0 < length ys)) = rw (c.deref-6.ensures.value, c.deref-7.ensures.value) at c.is_any.ensures.some in
     OnTrue_from _ _ (λ set.
     elim (OnTrue_at {P = (0 < length xs) ⊎ (0 < length ys)} set some) [
@@ -393,6 +392,6 @@ returns-clause-same g c =
     let (no_first, no_second) = OnFalse_at {P = (length xs ≡ 0) × (length ys ≡ 0)} unset none in
     still_beside c.args.joining c.args.parts.now c.args.agenda.now.marks c.args.agenda.now.waiting c.args.bad.now c.args.readers.now
     (rooms c.args.workspace.now) c.requires.runnable c.args.wide.now _ c.requires.wide c.waiting_parts_are_marked.ensures c.args.owners.now c.requires.owners
-    c.args.apart.now.inside c.requires.marked _ (are_changes g at_end.After-evaluate_awake) c.args.changes.now c.follow-first.new.bad c.write_all-2.new.state
-    c.follow-first.ensures.bad (own_taken g at_end.After-write_all-2 (agreed_all g at_end.After-evaluate_awake) (first_taken g at_end.After-write_all))
+    c.args.apart.now.inside c.requires.marked _ (are_changes g at_end.After-evaluate_awake) c.args.changes.now c.follow-span.new.bad c.write_all-2.new.state
+    c.follow-span.ensures.bad (own_taken g at_end.After-write_all-2 (agreed_all g at_end.After-evaluate_awake) (first_taken g at_end.After-write_all))
     (length-append xs ys ∙ omega (arith, no_first, no_second)))
