@@ -1,10 +1,10 @@
 //! A phase of the run under a fault beside the good run's, whose steps are counted and shown.
-ghost use Rattle.std.specs.Prelude.{◌≡◌, ◌≢◌, ℕ, ◌+◌, ◌-◌, ◌^◌, ◌<◌, ◌≤◌, [], length, not, nat_lt, Contains};
+ghost use Rattle.std.specs.Prelude.{◌≡◌, ◌≢◌, ◌⊎◌, ℕ, ◌+◌, ◌-◌, ◌^◌, ◌<◌, ◌≤◌, [], length, true, false, not, nat_lt, Contains};
 ghost use Rattle.std.specs.Bool.{OnTrue, OnFalse};
 ghost use Rattle.part_words.specs.declared.change.Change.{Change};
 ghost use Rattle.beside_phases.specs.Words.{state_at, AreAgreed, IsMarked, IsTaken, state_before, IsReplacement};
 ghost use Rattle.beside_phases.specs.Words.{AdvancesBeside, KeepsPartsApart, FitsBeside, IsPhaseOf};
-ghost use Rattle.beside_phases.specs.Counting.{ComesToRest, CountsBeside, FollowsOne, SettlesSeen, SomeFollows};
+ghost use Rattle.beside_phases.specs.Counting.{ComesToRest, FollowsOne, SettlesSeen, SomeFollows};
 
 use good_run::Recorder;
 use part_words::Change;
@@ -45,12 +45,27 @@ pub fn settle_counted<O: Onlooker, L: Ledger>(
     ensures ends { good.new ≡ state_before run.now end }
     ensures knows { O.knows onlooker.new machine.new.state }
 {
-    let moved = replay(
-        machine, good_graph, graph, run, first, end, limit, good, apart, steps, onlooker,
-    );
+    graphs_are_wired(good_graph);
+    graphs_are_wired(graph);
+    let mut moved: usize = 0;
+    for at in first..end {
+        let joining = is_joining(looks_between(first, at), limit);
+        let changes = run.changes_at(at);
+        let changed = step_seen(machine, joining, changes, good, apart, steps, onlooker);
+        moved = one_more_if(moved, changed, end);
+    }
     let all = looks_between(first, end);
     let count = rest_or_go_on(
-        machine, good_graph, graph, moved, all, limit, good, apart, steps, onlooker,
+        machine,
+        good_graph,
+        graph,
+        moved as u64,
+        all,
+        limit,
+        good,
+        apart,
+        steps,
+        onlooker,
     );
     settled(count, limit)
 }
@@ -74,40 +89,6 @@ pub fn settled(steps: u64, limit: u64) -> Settled
     }
 }
 
-// Takes the steps of the good run's phase in both runs, and answers how many of them changed the state under the fault.
-fn replay<O: Onlooker, L: Ledger>(
-    machine: &mut Machine,
-    good_graph: &Graph,
-    graph: &Graph,
-    run: &Recorder,
-    first: usize,
-    end: usize,
-    limit: u64,
-    good: &mut [Tern],
-    apart: &mut NodeSet,
-    steps: &mut Steps<L>,
-    onlooker: &mut O,
-) -> u64
-    requires fits { FitsBeside good_graph.now graph.now good.old apart.old.inside machine.old }
-    requires phase { IsPhaseOf good_graph.now limit run.now first end }
-    requires begins { good.old ≡ state_before run.now first }
-    requires knows { O.knows onlooker.old machine.old.state }
-    ensures counts { CountsBeside O.see good_graph.now graph.now limit (end - first) result machine.old machine.new good.new apart.new.inside (O.seen onlooker.old) (O.seen onlooker.new) }
-    ensures ends { good.new ≡ state_before run.now end }
-    ensures knows { O.knows onlooker.new machine.new.state }
-{
-    graphs_are_wired(good_graph);
-    graphs_are_wired(graph);
-    let mut moved: usize = 0;
-    for at in first..end {
-        let joining = is_joining(looks_between(first, at), limit);
-        let changes = run.changes_at(at);
-        let changed = step_seen(machine, joining, changes, good, apart, steps, onlooker);
-        moved = one_more_if(moved, changed, end);
-    }
-    moved as u64
-}
-
 // One step more, if it changed something.
 fn one_more_if(moved: usize, changed: bool, end: usize) -> usize
     requires { moved < end }
@@ -127,7 +108,8 @@ pub fn is_joining(count: u64, limit: u64) -> bool
     count >= limit
 }
 
-// Goes on beside a good run that is at its end, if each of all replacements changed something, and answers how many did.
+// Goes on beside a good run that is at its end, if each of all replacements changed something: takes steps while they change something, plain ones up to
+// the limit and then joining ones. It answers how many did.
 fn rest_or_go_on<O: Onlooker, L: Ledger>(
     machine: &mut Machine,
     good_graph: &Graph,
@@ -153,35 +135,9 @@ fn rest_or_go_on<O: Onlooker, L: Ledger>(
     if moved < all {
         return moved;
     }
-    go_on(
-        machine, good_graph, graph, moved, limit, good, apart, steps, onlooker,
-    )
-}
-
-// Takes steps while they change something, beside a good run that is at its end, plain ones up to the limit and then joining ones, once
-// so many were taken, and answers how many there are then.
-fn go_on<O: Onlooker, L: Ledger>(
-    machine: &mut Machine,
-    good_graph: &Graph,
-    graph: &Graph,
-    taken: u64,
-    limit: u64,
-    good: &mut [Tern],
-    apart: &mut NodeSet,
-    steps: &mut Steps<L>,
-    onlooker: &mut O,
-) -> u64
-    requires fits { FitsBeside good_graph.now graph.now good.old apart.old.inside machine.old }
-    requires stays { (n : ℕ) → taken ≤ n → IsReplacement good_graph.now limit n good.old good.old }
-    requires few { taken + limit + length machine.old.state < 2 ^ 62 }
-    requires knows { O.knows onlooker.old machine.old.state }
-    ensures rests { ComesToRest O.see good_graph.now graph.now limit taken result machine.old machine.new good.new apart.new.inside (O.seen onlooker.old) (O.seen onlooker.new) }
-    ensures good { good.new ≡ good.old }
-    ensures knows { O.knows onlooker.new machine.new.state }
-{
     graphs_are_wired(good_graph);
     graphs_are_wired(graph);
-    let mut count = taken;
+    let mut count = moved;
     while step_seen(
         machine,
         is_joining(count, limit),
@@ -222,7 +178,9 @@ fn step_seen<O: Onlooker, L: Ledger>(
     ensures unseen { OnFalse result (O.seen onlooker.new ≡ O.seen onlooker.old) }
     ensures knows { O.knows onlooker.new machine.new.state }
 {
-    if !step_counted(machine, joining, changes, good, apart, steps) {
+    let follows = some_follows(machine, changes, good, apart);
+    let moved = machine.step_beside(joining, changes, good, apart, steps);
+    if !is_change(follows, moved) {
         return false;
     }
     let mut changed = None;
@@ -230,57 +188,12 @@ fn step_seen<O: Onlooker, L: Ledger>(
     true
 }
 
-// Takes a step beside the good run's, and answers whether it changed the state under the fault.
-fn step_counted<L: Ledger>(
-    machine: &mut Machine,
-    joining: bool,
-    changes: &[Change],
-    good: &mut [Tern],
-    apart: &mut NodeSet,
-    steps: &mut Steps<L>,
-) -> bool
-    requires counted { length good.old ≡ length machine.old.state }
-    requires inside { (change : Change) → Contains changes.now change → change.node < length good.old }
-    requires agreed { AreAgreed changes.now }
-    requires apart { length apart.old.inside ≡ length machine.old.parts }
-    requires marked { (k : ℕ) → IsMarked machine.old.marks k → IsMarked apart.old.inside k }
-    requires kept { KeepsPartsApart machine.old.parts apart.old.inside good.old machine.old.state }
-    ensures good { IsTaken changes.now good.old good.new }
-    ensures advances { AdvancesBeside joining changes.now apart.old.inside apart.new.inside machine.old machine.new }
-    ensures kept { KeepsPartsApart machine.new.parts apart.new.inside good.new machine.new.state }
-    ensures changed { OnTrue result (machine.new.state ≢ machine.old.state) }
-    ensures same { OnFalse result (machine.new.state ≡ machine.old.state) }
+// Whether a step changed something: a node follows that changes, or what was replaced changed.
+fn is_change(follows: bool, moved: bool) -> bool
+    ensures yes { OnTrue result ((follows ≡ true) ⊎ (moved ≡ true)) }
+    ensures no { OnFalse result ((follows ≡ false) × (moved ≡ false)) }
 {
-    if some_follows(machine, changes, good, apart) {
-        return step_following(machine, joining, changes, good, apart, steps);
-    }
-    machine.step_beside(joining, changes, good, apart, steps)
-}
-
-// Takes a step beside the good run's in which a node follows that changes: so the state under the fault changes.
-fn step_following<L: Ledger>(
-    machine: &mut Machine,
-    joining: bool,
-    changes: &[Change],
-    good: &mut [Tern],
-    apart: &mut NodeSet,
-    steps: &mut Steps<L>,
-) -> bool
-    requires counted { length good.old ≡ length machine.old.state }
-    requires inside { (change : Change) → Contains changes.now change → change.node < length good.old }
-    requires agreed { AreAgreed changes.now }
-    requires apart { length apart.old.inside ≡ length machine.old.parts }
-    requires marked { (k : ℕ) → IsMarked machine.old.marks k → IsMarked apart.old.inside k }
-    requires kept { KeepsPartsApart machine.old.parts apart.old.inside good.old machine.old.state }
-    requires some { SomeFollows changes.now machine.old.parts apart.old.inside good.old }
-    ensures good { IsTaken changes.now good.old good.new }
-    ensures advances { AdvancesBeside joining changes.now apart.old.inside apart.new.inside machine.old machine.new }
-    ensures kept { KeepsPartsApart machine.new.parts apart.new.inside good.new machine.new.state }
-    ensures changed { OnTrue result (machine.new.state ≢ machine.old.state) }
-    ensures same { OnFalse result (machine.new.state ≡ machine.old.state) }
-{
-    let _moved = machine.step_beside(joining, changes, good, apart, steps);
-    true
+    follows || moved
 }
 
 // Whether a node of these changes follows the good run and changes in it.

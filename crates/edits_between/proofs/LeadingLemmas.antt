@@ -1,22 +1,22 @@
 -- What an edit leaves of a machine, and several edits.
-use Rattle.std.proofs.Common.{◌≡◌, ℕ, ◌-◌, ◌≤◌, ◌++◌, inl, inr, ◌⊎◌, Bool, true, false, List, length, take, replicate, None, Some, refl, sym, ap, subst, ◌∙◌, arith}
-use Rattle.std.specs.Prelude.{IfSome, Option, slice_set}
+use Rattle.std.proofs.Common.{◌≡◌, ℕ, ◌-◌, ◌≤◌, ◌++◌, inl, inr, ◌⊎◌, Bool, true, false, length, take, replicate, None, Some, refl, sym, ap, subst, ◌∙◌, arith}
+use Rattle.std.specs.Prelude.{IfSome, Option}
 use Rattle.std.proofs.Math.Seq.{take-length}
-use Rattle.std.proofs.lemmas.List.{append-nil, length-set, set-get_or, set-set}
+use Rattle.std.proofs.lemmas.List.{append-nil, length-set}
 use Rattle.ternary.specs.declared.tern.Tern.TheVariants.{Unk}
 use Rattle.switch_paths.specs.declared.switching.Switch.{Switch}
-use Rattle.switch_paths.specs.Graphs.{GraphData, IsWired, nodes, level_of, place_at}
+use Rattle.switch_paths.specs.Graphs.{GraphData, IsWired, nodes, level_of}
 use Rattle.group_meaning.specs.Groups.{Group}
 use Rattle.group_rest.specs.Alike.{IsAlike}
 use Rattle.channel_groups.specs.declared.change.Change.{Change}
-use Rattle.channel_groups.specs.Changes.{undo}
+use Rattle.channel_groups.specs.Changes.{undo, with_level, with_place}
 use Rattle.machine_laws.specs.Machines.{MachineData}
 use Rattle.machine_laws.specs.Fitting.{Covers}
 use Rattle.machine_laws.specs.Editing.{Edits, is_touched_in}
 use Rattle.machine_laws.proofs.AlikeParts.{alike_groups_keep_their_parts}
 use Rattle.machine_laws.proofs.KeptLemmas.{edits_keep_texts, untouched_alike}
 use Rattle.edits_between.specs.declared.differing.Differences.{Differences}
-use Rattle.edits_between.specs.Leading.{CodedAreAlike, DifferAt, EarlyAreAlike, HasParts, IsAsLarge, Led, LedBy, LedIn, last_in}
+use Rattle.edits_between.specs.Leading.{with_level_of, with_place_of, CodedAreAlike, DifferAt, EarlyAreAlike, HasParts, IsAsLarge, Led, LedBy, LedIn, last_in}
 
 -- ---- groups that stand alike
 
@@ -195,31 +195,24 @@ differ_from_the_way f_new g h differences same large differ =
 
 -- ---- the graph before an edit
 
--- before another switch, or none, came to stand at a place
-pub undo_place : (g new : GraphData) (place count : ℕ) (stood stands : Option Switch) → new ≡ record g { places = slice_set g.places place stands } →
-    stood ≡ place_at g.places place → count ≡ nodes g → undo new (record { nodes = count; place = Some (place, stood); level = None }) ≡ g
-undo_place g new place count stood stands new_is stood_is count_is =
-    ap (λ (now : GraphData). undo now (record { nodes = count; place = Some (place, stood); level = None })) new_is
-    ∙ (ap (λ n. undo (record g { places = slice_set g.places place stands }) (record { nodes = n; place = Some (place, stood); level = None })) count_is
-    ∙ (ap (λ switch. undo (record g { places = slice_set g.places place stands }) (record { nodes = nodes g; place = Some (place, switch); level = None })) stood_is
-    ∙ (λ i. record {
-      levels = take-length g.levels i;
-      places = (set-set g.places place stands (place_at g.places place) ∙ set-get_or g.places place None) i;
-    })))
+-- before something else came to stand at a place
+pub undo_place : (g new target : GraphData) (place count : ℕ) (old : Option (ℕ × Option Switch)) → new ≡ with_place_of target g place →
+    with_place old new.places ≡ g.places → count ≡ nodes g → undo new (record { nodes = count; place = old; level = None }) ≡ g
+undo_place g new target place count old new_is back count_is i = record { levels = levels_back i; places = back i }
+  where
+    levels_back : take count new.levels ≡ g.levels
+    levels_back = ap (λ (now : GraphData). take count now.levels) new_is ∙ (ap (λ n. take n g.levels) count_is ∙ take-length g.levels)
 
 -- before a node got another level
-pub undo_level : (g new : GraphData) (node count had has : ℕ) → new ≡ record g { levels = slice_set g.levels node has } → had ≡ level_of g node → count ≡ nodes g →
-    undo new (record { nodes = count; place = None; level = Some (node, had) }) ≡ g
-undo_level g new node count had has new_is had_is count_is =
-    ap (λ (now : GraphData). undo now (record { nodes = count; place = None; level = Some (node, had) })) new_is
-    ∙ (ap (λ n. undo (record g { levels = slice_set g.levels node has }) (record { nodes = n; place = None; level = Some (node, had) })) count_is
-    ∙ (ap (λ level. undo (record g { levels = slice_set g.levels node has }) (record { nodes = nodes g; place = None; level = Some (node, level) })) had_is
-    ∙ (λ i. record { levels = back i; places = g.places })))
+pub undo_level : (g new target : GraphData) (node count : ℕ) (old : Option (ℕ × ℕ)) → new ≡ with_level_of target g node →
+    with_level old new.levels ≡ g.levels → count ≡ nodes g → undo new (record { nodes = count; place = None; level = old }) ≡ g
+undo_level g new target node count old new_is back count_is i = record {
+  levels = (ap (with_level old) whole ∙ back) i;
+  places = ap (λ (now : GraphData). now.places) new_is i;
+}
   where
-    whole : take (nodes g) (slice_set g.levels node has) ≡ slice_set g.levels node has
-    whole = ap (λ n. take n (slice_set g.levels node has)) (sym (length-set g.levels node has)) ∙ take-length (slice_set g.levels node has)
+    counted : count ≡ length new.levels
+    counted = count_is ∙ sym (ap nodes new_is ∙ length-set g.levels node (level_of target node))
 
-    back : slice_set (take (nodes g) (slice_set g.levels node has)) node (level_of g node) ≡ g.levels
-    back =
-        ap (λ (list : List ℕ). slice_set list node (level_of g node)) whole
-        ∙ (set-set g.levels node has (level_of g node) ∙ set-get_or g.levels node 0)
+    whole : take count new.levels ≡ new.levels
+    whole = ap (λ n. take n new.levels) counted ∙ take-length new.levels

@@ -1,3 +1,4 @@
 pub mod LeadingLemmas
 pub mod BuildsAgain
+pub mod NotingLemmas
 pub mod ReachingLemmas

@@ -1,145 +1,121 @@
--- A graph that gets what stands in another one at each place at which they differ, and of each node whose levels differ, is that one in the end.
-use Rattle.std.proofs.Common.{◌≡◌, ℕ, ◌+◌, ◌<◌, ◌≤◌, inl, inr, ◌⊎◌, List, length, get_or, None, refl, sym, ap, subst, ◌∙◌, arith}
+-- A graph that gets what another one has at each spot at which they differ is that one in the end.
+use Rattle.std.proofs.Common.{◌≡◌, ◌≢◌, ℕ, ◌+◌, ◌<◌, ◌≤◌, inl, inr, ◌⊎◌, List, length, get_or, None, sym, subst, ◌∙◌, arith}
+use Rattle.std.specs.Prelude.{Contains, slice_set}
 use Rattle.std.proofs.lemmas.Bool.{cases_eq}
-use Rattle.std.proofs.lemmas.List.{ext_get_or, get_or-set_other, get_or-set_same, get_or_default, set_past}
+use Rattle.std.proofs.lemmas.List.{ext_get_or, get_or-set_other, get_or-set_same, get_or_default, length-set, set_past}
 use Rattle.switch_paths.specs.Graphs.{GraphData, level_of, nodes, place_at}
-use Rattle.edits_between.specs.Leading.{with_level_of, with_place_of, AreLevelledBut, AreSameBut, IsAsLarge}
+use Rattle.edits_between.specs.declared.differing.Spot.{Spot}
+use Rattle.edits_between.specs.declared.differing.Spot.TheVariants.{Node, Place}
+use Rattle.edits_between.specs.Leading.{with_level_of, with_place_of, with_spot_of, AreSameBut, IsAsLarge}
 
--- a number stands in a list, not among the first so many
-abbrev pub StandsFrom : ℕ → List ℕ → ℕ → Type 0
-StandsFrom first list number = (k : ℕ) × (first ≤ k) × (k < length list) × (get_or list k number ≡ number)
+-- a spot stands in a list, not among the first so many
+abbrev pub StandsFrom : ℕ → List Spot → Spot → Type 0
+StandsFrom first spots spot = (k : ℕ) × (first ≤ k) × (k < length spots) × (get_or spots k spot ≡ spot)
 
 -- it is the next one, or stands behind that
-here_or_later : (first : ℕ) (list : List ℕ) (number other : ℕ) → other ≡ get_or list first 0 → StandsFrom first list number →
-    (number ≡ other) ⊎ StandsFrom (first + 1) list number
-here_or_later first list number other other_is (k, from, below, is) =
+here_or_later : (first : ℕ) (spots : List Spot) (next spot : Spot) → get_or spots first next ≡ next → StandsFrom first spots spot →
+    (spot ≡ next) ⊎ StandsFrom (first + 1) spots spot
+here_or_later first spots next spot next_is (k, from, below, is) =
     elim (cases_eq k first) [
       | inl same ↦
-          let inside : first < length list = omega (arith, same, below) in
-          inl (sym (subst (λ j. get_or list j number ≡ number) same is) ∙ get_or_default list first number 0 inside ∙ sym other_is)
-      | inr other_place ↦ inr (k, omega (arith, from, other_place), below, is)
+          let inside : first < length spots = omega (arith, same, below) in
+          inl (sym (subst (λ j. get_or spots j spot ≡ spot) same is) ∙ (get_or_default spots first spot next inside ∙ next_is))
+      | inr apart ↦ inr (k, omega (arith, from, apart), below, is)
     ]
 
--- ---- places
+-- ---- a list that gets what the target has at the next spot
 
--- the graph is the old one but for its places, and at each but those that are left the same stands as in the target
-pub record HasPlacesBut (old target : GraphData) (list : List ℕ) (first : ℕ) (new : GraphData) : Type 0 where
-  pub levels : new.levels ≡ old.levels
-  pub same : (place : ℕ) → place < length target.places → StandsFrom first list place ⊎ (place_at new.places place ≡ place_at target.places place)
+module _ (spots : List Spot) (first : ℕ) (at : ℕ → Spot) where
+  -- at that spot both lists are alike then
+  list_on : {A : Type 0} (default : A) (list target : List A) (place : ℕ) → ((k : ℕ) → at k ≡ at place → k ≡ place) → get_or spots first (at place) ≡ at place →
+      ((k : ℕ) → k < length list → StandsFrom first spots (at k) ⊎ (get_or list k default ≡ get_or target k default)) →
+      (k : ℕ) → k < length (slice_set list place (get_or target place default)) →
+      StandsFrom (first + 1) spots (at k) ⊎ (get_or (slice_set list place (get_or target place default)) k default ≡ get_or target k default)
+  list_on default list target place one next_is left k below =
+      let put = get_or target place default in
+      let inside : k < length list = omega (arith, below, length-set list place put) in
+      elim (cases_eq k place) [
+        | inl here ↦ inr (
+            subst (λ j. get_or (slice_set list place put) j default ≡ get_or target j default) (sym here)
+            (get_or-set_same list place put default (omega (arith, inside, here))))
+        | inr apart ↦ elim (left k inside) [
+          | inl stands ↦ elim (here_or_later first spots (at place) (at k) next_is stands) [
+            | inl here ↦ absurd (apart (one k here))
+            | inr later ↦ inl later
+          ]
+          | inr same ↦ inr (get_or-set_other list place k put default apart ∙ same)
+        ]
+      ]
 
-pub places_first : (g target : GraphData) (list : List ℕ) → IsAsLarge g target → AreSameBut g target list → HasPlacesBut g target list 0 g
-places_first g target list large but = record {
-  levels = refl;
-  same = λ place inside. elim (but place (omega (arith, inside, large.places_are))) [
-    | inl stands ↦ let (k, below, is) = stands in inl (k, omega (arith), below, is)
-    | inr same ↦ inr same
-  ];
-}
-
-pub places_on : (old target mid new : GraphData) (list : List ℕ) (first place : ℕ) → HasPlacesBut old target list first mid → IsAsLarge mid target →
-    place ≡ get_or list first 0 → new ≡ with_place_of target mid place → HasPlacesBut old target list (first + 1) new
-places_on old target mid new list first place left large place_is is = record {
-  levels = ap (λ (g : GraphData). g.levels) is ∙ left.levels;
-  same = λ other inside. elim (left.same other inside) [
-    | inl stands ↦ elim (here_or_later first list other place place_is stands) [
-      | inl here ↦ inr (put other inside here)
+  -- if the spot is none of the list's, that is as it was
+  rest_on : (next : Spot) (count : ℕ) (Same : ℕ → Type 0) → ((k : ℕ) → at k ≢ next) → get_or spots first next ≡ next →
+      ((k : ℕ) → k < count → StandsFrom first spots (at k) ⊎ Same k) → (k : ℕ) → k < count → StandsFrom (first + 1) spots (at k) ⊎ Same k
+  rest_on next count Same other next_is left k inside = elim (left k inside) [
+    | inl stands ↦ elim (here_or_later first spots next (at k) next_is stands) [
+      | inl here ↦ absurd (other k here)
       | inr later ↦ inl later
     ]
-    | inr same ↦ elim (cases_eq other place) [
-      | inl here ↦ inr (put other inside here)
-      | inr apart ↦ inr (
-          ap (λ (g : GraphData). place_at g.places other) is
-          ∙ (get_or-set_other mid.places place other (place_at target.places place) None apart ∙ same))
-    ]
-  ];
-}
-  where
-    -- at the place itself what stands in the target was put
-    put : (other : ℕ) → other < length target.places → other ≡ place → place_at new.places other ≡ place_at target.places other
-    put other inside here =
-        ap (λ (g : GraphData). place_at g.places other) is
-        ∙ subst (λ k. place_at (with_place_of target mid place).places k ≡ place_at target.places k) (sym here)
-        (get_or-set_same mid.places place (place_at target.places place) None (omega (arith, inside, here, large.places_are)))
+    | inr same ↦ inr same
+  ]
 
-pub places_last : (old target new : GraphData) (list : List ℕ) (first : ℕ) → HasPlacesBut old target list first new → length target.places ≡ length new.places →
-    length list ≤ first → new ≡ record old { places = target.places }
-places_last old target new list first left counted all i = record {
-  levels = left.levels i;
-  places = ext_get_or None new.places target.places (sym counted) (λ place inside. elim (left.same place (omega (arith, inside, counted))) [
-    | inl stands ↦ let (k, from, below, is) = stands in absurd (omega (arith, from, below, all))
-    | inr same ↦ same
-  ]) i;
+-- ---- the graph
+
+-- before the first spot all are left
+from_first : (spots : List Spot) (spot : Spot) (Same : Type 0) → Contains spots spot ⊎ Same → StandsFrom 0 spots spot ⊎ Same
+from_first spots spot Same (inl (k, below, is)) = inl (k, omega (arith), below, is)
+from_first spots spot Same (inr same) = inr same
+
+pub spots_first : (g target : GraphData) (spots : List Spot) → AreSameBut (Contains spots) g target → AreSameBut (StandsFrom 0 spots) g target
+spots_first g target spots but = record {
+  by_place = λ place inside. from_first spots (Place place) _ (but.by_place place inside);
+  by_node = λ node inside. from_first spots (Node node) _ (but.by_node node inside);
 }
 
--- past the last place nothing can be put
+-- one spot more
+with_spot : (target g : GraphData) (spots : List Spot) (first : ℕ) (spot : Spot) → AreSameBut (StandsFrom first spots) g target →
+    get_or spots first spot ≡ spot → AreSameBut (StandsFrom (first + 1) spots) (with_spot_of target g spot) target
+with_spot target g spots first (Place place) left next_is = record {
+  by_place = list_on spots first Place None g.places target.places place (λ k is. cc) next_is left.by_place;
+  by_node = rest_on spots first Node (Place place) (nodes g) (λ node. level_of g node ≡ level_of target node) (λ k is. absurd cc) next_is left.by_node;
+}
+with_spot target g spots first (Node node) left next_is = record {
+  by_place = rest_on spots first Place (Node node) (length g.places) (λ place. place_at g.places place ≡ place_at target.places place) (λ k is. absurd cc)
+      next_is left.by_place;
+  by_node = list_on spots first Node 0 g.levels target.levels node (λ k is. cc) next_is left.by_node;
+}
+
+pub spots_on : (target mid new : GraphData) (spots : List Spot) (first : ℕ) (spot : Spot) → AreSameBut (StandsFrom first spots) mid target →
+    get_or spots first spot ≡ spot → new ≡ with_spot_of target mid spot → AreSameBut (StandsFrom (first + 1) spots) new target
+spots_on target mid new spots first spot left next_is is =
+    subst (λ (g : GraphData). AreSameBut (StandsFrom (first + 1) spots) g target) (sym is) (with_spot target mid spots first spot left next_is)
+
+-- behind the last spot none is left
+none_left : (spots : List Spot) (first : ℕ) (spot : Spot) (Same : Type 0) → length spots ≤ first → StandsFrom first spots spot ⊎ Same → Same
+none_left spots first spot Same all (inl (k, from, below, is)) = absurd (omega (arith, from, below, all))
+none_left spots first spot Same all (inr same) = same
+
+pub spots_last : (target g : GraphData) (spots : List Spot) (first : ℕ) → AreSameBut (StandsFrom first spots) g target → IsAsLarge g target →
+    length spots ≤ first → g ≡ target
+spots_last target g spots first left large all i = record {
+  levels = ext_get_or 0 g.levels target.levels (sym large.nodes_are)
+      (λ node inside. none_left spots first (Node node) _ all (left.by_node node inside)) i;
+  places = ext_get_or None g.places target.places (sym large.places_are)
+      (λ place inside. none_left spots first (Place place) _ all (left.by_place place inside)) i;
+}
+
+-- the graph stays as large
+large_with : (target g : GraphData) (spot : Spot) → IsAsLarge g target → IsAsLarge (with_spot_of target g spot) target
+large_with target g (Place place) large =
+    record { nodes_are = large.nodes_are; places_are = large.places_are ∙ sym (length-set g.places place (place_at target.places place)) }
+large_with target g (Node node) large =
+    record { nodes_are = large.nodes_are ∙ sym (length-set g.levels node (level_of target node)); places_are = large.places_are }
+
+pub large_on : (target g new : GraphData) (spot : Spot) → new ≡ with_spot_of target g spot → IsAsLarge g target → IsAsLarge new target
+large_on target g new spot is large = subst (λ (h : GraphData). IsAsLarge h target) (sym is) (large_with target g spot large)
+
+-- past the last place nothing can be put, and past the last node no level can be given
 pub place_past : (target g : GraphData) (place : ℕ) → length g.places ≤ place → g ≡ with_place_of target g place
 place_past target g place past i = record { levels = g.levels; places = sym (set_past g.places place (place_at target.places place) past) i }
 
--- ---- levels
-
--- the graph is the old one but for its levels, and each node but those that are left has the same as in the target
-pub record HasLevelsBut (old target : GraphData) (list : List ℕ) (first : ℕ) (new : GraphData) : Type 0 where
-  pub places : new.places ≡ old.places
-  pub same : (node : ℕ) → node < nodes target → StandsFrom first list node ⊎ (level_of new node ≡ level_of target node)
-
-pub levels_first : (g target : GraphData) (list : List ℕ) → IsAsLarge g target → AreLevelledBut g target list → HasLevelsBut g target list 0 g
-levels_first g target list large but = record {
-  places = refl;
-  same = λ node inside. elim (but node (omega (arith, inside, large.nodes_are))) [
-    | inl stands ↦ let (k, below, is) = stands in inl (k, omega (arith), below, is)
-    | inr same ↦ inr same
-  ];
-}
-
-pub levels_on : (old target mid new : GraphData) (list : List ℕ) (first node : ℕ) → HasLevelsBut old target list first mid → IsAsLarge mid target →
-    node ≡ get_or list first 0 → new ≡ with_level_of target mid node → HasLevelsBut old target list (first + 1) new
-levels_on old target mid new list first node left large node_is is = record {
-  places = ap (λ (g : GraphData). g.places) is ∙ left.places;
-  same = λ other inside. elim (left.same other inside) [
-    | inl stands ↦ elim (here_or_later first list other node node_is stands) [
-      | inl here ↦ inr (put other inside here)
-      | inr later ↦ inl later
-    ]
-    | inr same ↦ elim (cases_eq other node) [
-      | inl here ↦ inr (put other inside here)
-      | inr apart ↦ inr (
-          ap (λ (g : GraphData). level_of g other) is
-          ∙ (get_or-set_other mid.levels node other (level_of target node) 0 apart ∙ same))
-    ]
-  ];
-}
-  where
-    -- the node itself got its level in the target
-    put : (other : ℕ) → other < nodes target → other ≡ node → level_of new other ≡ level_of target other
-    put other inside here =
-        ap (λ (g : GraphData). level_of g other) is
-        ∙ subst (λ k. level_of (with_level_of target mid node) k ≡ level_of target k) (sym here)
-        (get_or-set_same mid.levels node (level_of target node) 0 (omega (arith, inside, here, large.nodes_are)))
-
-pub levels_last : (old target new : GraphData) (list : List ℕ) (first : ℕ) → HasLevelsBut old target list first new → nodes target ≡ nodes new →
-    length list ≤ first → new ≡ record old { levels = target.levels }
-levels_last old target new list first left counted all i = record {
-  levels = ext_get_or 0 new.levels target.levels (sym counted) (λ node inside. elim (left.same node (omega (arith, inside, counted))) [
-    | inl stands ↦ let (k, from, below, is) = stands in absurd (omega (arith, from, below, all))
-    | inr same ↦ same
-  ]) i;
-  places = left.places i;
-}
-
--- past the last node no level can be given
 pub level_past : (target g : GraphData) (node : ℕ) → nodes g ≤ node → g ≡ with_level_of target g node
 level_past target g node past i = record { levels = sym (set_past g.levels node (level_of target node) past) i; places = g.places }
-
--- ---- both
-
--- with the places of the target, and then its levels, the graph is the target
-pub both_reached : (old target mid new : GraphData) → mid ≡ record old { places = target.places } → new ≡ record mid { levels = target.levels } → new ≡ target
-both_reached old target mid new places levels i = record {
-  levels = ap (λ (g : GraphData). g.levels) levels i;
-  places = (ap (λ (g : GraphData). g.places) levels ∙ ap (λ (g : GraphData). g.places) places) i;
-}
-
--- the levels still differ where they did
-pub levels_differ_on : (old target mid : GraphData) (list : List ℕ) → mid ≡ record old { places = target.places } → AreLevelledBut old target list →
-    AreLevelledBut mid target list
-levels_differ_on old target mid list is but = subst (λ (g : GraphData). AreLevelledBut g target list) (sym is) but

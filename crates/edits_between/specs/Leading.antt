@@ -9,6 +9,8 @@ use Rattle.machine_parts.specs.Parts.{Stands}
 use Rattle.machine_laws.specs.Machines.{MachineData}
 use Rattle.machine_laws.specs.Fitting.{IsPartOf, Covers, IsKeptBy}
 use Rattle.edits_between.specs.declared.differing.Differences.{Differences}
+use Rattle.edits_between.specs.declared.differing.Spot.{Spot}
+use Rattle.edits_between.specs.declared.differing.Spot.TheVariants.{Node, Place}
 
 -- each part of the machine that has code is that of a group that stands alike in both graphs
 abbrev pub CodedAreAlike : GraphData → GraphData → MachineData → Type 0
@@ -58,20 +60,21 @@ with_place_of target g place = record g { places = slice_set g.places place (pla
 abbrev pub with_level_of : GraphData → GraphData → ℕ → GraphData
 with_level_of target g node = record g { levels = slice_set g.levels node (level_of target node) }
 
+-- the graph with what the target has at this spot
+abbrev pub with_spot_of : GraphData → GraphData → Spot → GraphData
+with_spot_of target g (Place place) = with_place_of target g place
+with_spot_of target g (Node node) = with_level_of target g node
+
 -- the graph has as many nodes and places
 pub record IsAsLarge (g h : GraphData) : Type 0 where
   pub nodes_are : nodes h ≡ nodes g
   pub places_are : length h.places ≡ length g.places
 
--- at each place but these the same stands in both graphs
-abbrev pub AreSameBut : GraphData → GraphData → List ℕ → Type 0
-AreSameBut g h places = (place : ℕ) → place < length g.places → Contains places place ⊎ (place_at g.places place ≡ place_at h.places place)
+-- at each place but those that are left the same stands in both graphs, and each node but those has the same level
+pub record AreSameBut (Left : Spot → Type 0) (g h : GraphData) : Type 0 where
+  pub by_place : (place : ℕ) → place < length g.places → Left (Place place) ⊎ (place_at g.places place ≡ place_at h.places place)
+  pub by_node : (node : ℕ) → node < nodes g → Left (Node node) ⊎ (level_of g node ≡ level_of h node)
 
--- each node but these has the same level in both graphs
-abbrev pub AreLevelledBut : GraphData → GraphData → List ℕ → Type 0
-AreLevelledBut g h list = (node : ℕ) → node < nodes g → Contains list node ⊎ (level_of g node ≡ level_of h node)
-
--- two graphs differ at these places and nodes alone
-pub record DifferAt (g h : GraphData) (differences : Differences) : Type 0 where
-  pub by_place : AreSameBut g h differences.places.items
-  pub by_node : AreLevelledBut g h differences.nodes.items
+-- two graphs differ at these spots alone
+abbrev pub DifferAt : GraphData → GraphData → Differences → Type 0
+DifferAt g h differences = AreSameBut (Contains differences.spots.items) g h

@@ -1,18 +1,24 @@
 //! At which places, and at which nodes, two graphs differ.
-ghost use Rattle.std.specs.Prelude.{◌≡◌, ◌⊎◌, ℕ, ◌<◌, Contains, length, slice_index, OnOk};
+ghost use Rattle.std.specs.Prelude.{◌≡◌, ◌⊎◌, ℕ, ◌<◌, Contains, length, slice_index_or, true, OnOk};
 ghost use Rattle.std.specs.Bool.{OnTrue};
 ghost use Rattle.switch_paths.specs.Graphs.{GraphData, level_of, nodes, place_at};
-ghost use Rattle.edits_between.specs.Leading.{AreLevelledBut, AreSameBut, DifferAt, IsAsLarge};
+ghost use Rattle.edits_between.specs.Leading.{DifferAt, IsAsLarge};
 
 use crate::comparing::{are_same, are_same_levels};
 use std::alloc::{AllocError, Global};
 use switch_paths::Graph;
 
+/// Where two graphs may differ: at a place, by what stands there, or at a node, by its level.
+#[derive(Clone, Copy)]
+pub enum Spot {
+    Place(usize),
+    Node(usize),
+}
+
 /// The places at which not the same stands in two graphs, and the nodes whose levels aren't the same: all else is.
 #[derive(Drop)]
 pub struct Differences {
-    pub places: Vec<usize>,
-    pub nodes: Vec<usize>,
+    pub spots: Vec<Spot>,
 }
 
 impl Differences {
@@ -21,39 +27,23 @@ impl Differences {
         ensures { (g : GraphData) → DifferAt g g result }
     {
         Differences {
-            places: Vec::new(alloc),
-            nodes: Vec::new(alloc),
+            spots: Vec::new(alloc),
         }
     }
 
-    /// How many places these are.
-    pub(crate) fn places(&self) -> usize
-        ensures { result ≡ length self.now.places.items }
+    /// How many these are.
+    pub(crate) fn count(&self) -> usize
+        ensures { result ≡ length self.now.spots.items }
     {
-        self.places.len()
+        self.spots.len()
     }
 
-    /// How many nodes these are.
-    pub(crate) fn nodes(&self) -> usize
-        ensures { result ≡ length self.now.nodes.items }
+    /// The one with this number among these.
+    pub(crate) fn spot(&self, number: usize) -> Spot
+        requires { number < length self.now.spots.items }
+        ensures { slice_index_or self.now.spots.items number result ≡ result }
     {
-        self.nodes.len()
-    }
-
-    /// The place with this number among these.
-    pub(crate) fn place_of(&self, number: usize) -> usize
-        requires { number < length self.now.places.items }
-        ensures { result ≡ slice_index self.now.places.items number }
-    {
-        self.places[number]
-    }
-
-    /// The node with this number among these.
-    pub(crate) fn node_of(&self, number: usize) -> usize
-        requires { number < length self.now.nodes.items }
-        ensures { result ≡ slice_index self.now.nodes.items number }
-    {
-        self.nodes[number]
+        self.spots[number]
     }
 
     /// Becomes those between two graphs of as many nodes and places, if there is memory for them.
@@ -61,41 +51,23 @@ impl Differences {
         requires { IsAsLarge one.now other.now }
         ensures { OnOk result (DifferAt one.now other.now self.new) }
     {
-        self.places.clear();
-        self.nodes.clear();
-        note_places(one, other, &mut self.places)?;
-        note_nodes(one, other, &mut self.nodes)?;
+        self.spots.clear();
+        note_places(one, other, &mut self.spots)?;
+        note_nodes(one, other, &mut self.spots)?;
         Ok(())
     }
 }
 
 // Puts each place into a list at which not the same stands in both graphs.
-fn note_places(one: &Graph, other: &Graph, places: &mut Vec<usize>) -> Result<(), AllocError>
+fn note_places(one: &Graph, other: &Graph, spots: &mut Vec<Spot>) -> Result<(), AllocError>
     requires { IsAsLarge one.now other.now }
-    ensures { OnOk result (AreSameBut one.now other.now places.new.items) }
+    ensures { OnOk result ((place : ℕ) → place < length one.now.places
+        → Contains spots.new.items (Spot.Place place) ⊎ (place_at one.now.places place ≡ place_at other.now.places place)) }
 {
     for place in 0..one.places() {
-        note_place(one, other, place, places)?;
+        let alike = stand_alike(one, other, place);
+        note(Spot::Place(place), alike, spots)?;
     }
-    Ok(())
-}
-
-// Puts a place into a list, if not the same stands there in both graphs.
-fn note_place(
-    one: &Graph,
-    other: &Graph,
-    place: usize,
-    places: &mut Vec<usize>,
-) -> Result<(), AllocError>
-    requires one { place < length one.now.places }
-    requires other { place < length other.now.places }
-    ensures kept { OnOk result ((k : ℕ) → Contains places.old.items k → Contains places.new.items k) }
-    ensures noted { OnOk result (Contains places.new.items place ⊎ (place_at one.now.places place ≡ place_at other.now.places place)) }
-{
-    if stand_alike(one, other, place) {
-        return Ok(());
-    }
-    places.push(place)?;
     Ok(())
 }
 
@@ -110,33 +82,17 @@ fn stand_alike(one: &Graph, other: &Graph, place: usize) -> bool
     are_same(stands, stood)
 }
 
-// Puts each node into a list whose levels aren't the same in both graphs.
-fn note_nodes(one: &Graph, other: &Graph, list: &mut Vec<usize>) -> Result<(), AllocError>
+// Puts each node into a list whose levels aren't the same in both graphs; what stood there stays.
+fn note_nodes(one: &Graph, other: &Graph, spots: &mut Vec<Spot>) -> Result<(), AllocError>
     requires { IsAsLarge one.now other.now }
-    ensures { OnOk result (AreLevelledBut one.now other.now list.new.items) }
+    ensures kept { OnOk result ((spot : Spot) → Contains spots.old.items spot → Contains spots.new.items spot) }
+    ensures noted { OnOk result ((node : ℕ) → node < nodes one.now
+        → Contains spots.new.items (Spot.Node node) ⊎ (level_of one.now node ≡ level_of other.now node)) }
 {
     for node in 0..one.nodes() {
-        note_node(one, other, node, list)?;
+        let alike = are_levelled_alike(one, other, node);
+        note(Spot::Node(node), alike, spots)?;
     }
-    Ok(())
-}
-
-// Puts a node into a list, if its levels aren't the same in both graphs.
-fn note_node(
-    one: &Graph,
-    other: &Graph,
-    node: usize,
-    list: &mut Vec<usize>,
-) -> Result<(), AllocError>
-    requires one { node < nodes one.now }
-    requires other { node < nodes other.now }
-    ensures kept { OnOk result ((k : ℕ) → Contains list.old.items k → Contains list.new.items k) }
-    ensures noted { OnOk result (Contains list.new.items node ⊎ (level_of one.now node ≡ level_of other.now node)) }
-{
-    if are_levelled_alike(one, other, node) {
-        return Ok(());
-    }
-    list.push(node)?;
     Ok(())
 }
 
@@ -149,4 +105,16 @@ fn are_levelled_alike(one: &Graph, other: &Graph, node: usize) -> bool
     let has = one.level(node);
     let had = other.level(node);
     are_same_levels(has, had)
+}
+
+// Puts a spot into a list, unless both graphs are alike there; what stood there stays.
+fn note(spot: Spot, alike: bool, spots: &mut Vec<Spot>) -> Result<(), AllocError>
+    ensures kept { OnOk result ((other : Spot) → Contains spots.old.items other → Contains spots.new.items other) }
+    ensures noted { OnOk result (Contains spots.new.items spot ⊎ (alike ≡ true)) }
+{
+    if alike {
+        return Ok(());
+    }
+    spots.push(spot)?;
+    Ok(())
 }

@@ -2,14 +2,14 @@
 ghost use Rattle.std.specs.Prelude.{◌≡◌, ◌<◌, ◌≤◌, length, IfSome};
 ghost use Rattle.std.specs.Bool.{OnFalse, OnTrue};
 ghost use Rattle.switch_paths.specs.Graphs.{nodes, IsWired};
-ghost use Rattle.channel_groups.specs.Changes.{undo};
+ghost use Rattle.channel_groups.specs.Changes.{undo, with_level, with_place};
 ghost use Rattle.machine_laws.specs.Fitting.{Covers};
-ghost use Rattle.edits_between.specs.Leading.{with_level_of, with_place_of, AreLevelledBut, AreSameBut, DifferAt, HasParts, IsAsLarge, LedBy, LedIn, last_in};
+ghost use Rattle.edits_between.specs.Leading.{with_level_of, with_place_of, with_spot_of, DifferAt, HasParts, IsAsLarge, LedBy, LedIn, last_in};
 
-use crate::differing::Differences;
+use crate::differing::{Differences, Spot};
 use channel_groups::Change;
 use std::sync::ledger::Ledger;
-use switch_paths::{Graph, graphs_are_wired};
+use switch_paths::{Graph, Switch, graphs_are_wired};
 use ternary::Steps;
 use unit_step::Machine;
 
@@ -45,7 +45,8 @@ pub fn lead_by<L: Ledger>(
 }
 
 // Leads a machine that covers the graph to another graph of as many nodes and places, from which it differs at these alone, and the graph becomes that
-// one; answers whether it did. Out of memory the machine that is left is one for its states and the texts of its last build alone.
+// one: follows an edit for each of these, while there is memory; answers whether there was. Else the machine that is left is one for its states and the
+// texts of its last build alone.
 fn lead<L: Ledger>(
     slot: &mut Option<Machine>,
     graph: &mut Graph,
@@ -60,10 +61,14 @@ fn lead<L: Ledger>(
     ensures graph { OnTrue result (graph.new ≡ target.now) }
     ensures last { last_in slot.new ≡ last_in slot.old }
 {
-    if !lead_places(slot, graph, target, apart, steps) {
-        return false;
+    for number in 0..apart.count() {
+        graphs_are_wired(graph);
+        let change = put(graph, target, apart.spot(number));
+        if !follow(slot, graph, &change, steps) {
+            return false;
+        }
     }
-    lead_levels(slot, graph, target, apart, steps)
+    true
 }
 
 // How many parts a machine has, if there is one.
@@ -76,59 +81,45 @@ fn parts_in(slot: &Option<Machine>) -> usize
     }
 }
 
-// Follows an edit for each of these places, while there is memory: then the graph has the places of the other one.
-fn lead_places<L: Ledger>(
-    slot: &mut Option<Machine>,
-    graph: &mut Graph,
-    target: &Graph,
-    apart: &Differences,
-    steps: &mut Steps<L>,
-) -> bool
-    requires covers { IfSome slot.old (Covers graph.old) }
-    requires large { IsAsLarge graph.old target.now }
-    requires same { AreSameBut graph.old target.now apart.now.places.items }
-    ensures led { OnTrue result (LedIn graph.old graph.new slot.old slot.new) }
-    ensures places { OnTrue result (graph.new ≡ record graph.old { places = target.now.places }) }
-    ensures large { IsAsLarge graph.new target.now }
-    ensures last { last_in slot.new ≡ last_in slot.old }
+// Puts what the other graph has at a spot; answers how the graph was before.
+fn put(graph: &mut Graph, target: &Graph, spot: Spot) -> Change
+    requires { IsAsLarge graph.old target.now }
+    ensures before { undo graph.new result ≡ graph.old }
+    ensures put { graph.new ≡ with_spot_of target.now graph.old spot }
 {
-    for number in 0..apart.places() {
-        let place = apart.place_of(number);
-        if !lead_place(slot, graph, target, place, steps) {
-            return false;
+    let nodes = graph.nodes();
+    match spot {
+        Spot::Place(place) => {
+            let place = put_place(graph, target, place);
+            Change {
+                nodes,
+                place,
+                level: None,
+            }
+        }
+        Spot::Node(node) => {
+            let level = put_level(graph, target, node);
+            Change {
+                nodes,
+                place: None,
+                level,
+            }
         }
     }
-    true
 }
 
-// Follows the edit that puts at a place what stands there in the other graph, if there is such a place.
-fn lead_place<L: Ledger>(
-    slot: &mut Option<Machine>,
-    graph: &mut Graph,
-    target: &Graph,
-    place: usize,
-    steps: &mut Steps<L>,
-) -> bool
-    requires covers { IfSome slot.old (Covers graph.old) }
-    requires large { IsAsLarge graph.old target.now }
-    ensures led { OnTrue result (LedIn graph.old graph.new slot.old slot.new) }
+// Puts at a place what stands there in the other graph, if there is such a place; answers what stood there.
+fn put_place(graph: &mut Graph, target: &Graph, place: usize) -> Option<(usize, Option<Switch>)>
+    requires { IsAsLarge graph.old target.now }
+    ensures before { with_place result graph.new.places ≡ graph.old.places }
     ensures put { graph.new ≡ with_place_of target.now graph.old place }
-    ensures large { IsAsLarge graph.new target.now }
-    ensures last { last_in slot.new ≡ last_in slot.old }
 {
     if !has_place(graph, place) {
-        return true;
+        return None;
     }
-    graphs_are_wired(graph);
     let stood = graph.switch_at(place);
-    let stands = target.switch_at(place);
-    let change = Change {
-        nodes: graph.nodes(),
-        place: Some((place, stood)),
-        level: None,
-    };
-    graph.put_switch(place, stands);
-    follow(slot, graph, &change, steps)
+    graph.put_switch(place, target.switch_there(place));
+    Some((place, stood))
 }
 
 // Whether a graph has such a place.
@@ -139,59 +130,19 @@ fn has_place(graph: &Graph, place: usize) -> bool
     place < graph.places()
 }
 
-// Follows an edit for each of these nodes, while there is memory: then the graph has the levels of the other one.
-fn lead_levels<L: Ledger>(
-    slot: &mut Option<Machine>,
-    graph: &mut Graph,
-    target: &Graph,
-    apart: &Differences,
-    steps: &mut Steps<L>,
-) -> bool
-    requires covers { IfSome slot.old (Covers graph.old) }
-    requires large { IsAsLarge graph.old target.now }
-    requires same { AreLevelledBut graph.old target.now apart.now.nodes.items }
-    ensures led { OnTrue result (LedIn graph.old graph.new slot.old slot.new) }
-    ensures levels { OnTrue result (graph.new ≡ record graph.old { levels = target.now.levels }) }
-    ensures large { IsAsLarge graph.new target.now }
-    ensures last { last_in slot.new ≡ last_in slot.old }
-{
-    for number in 0..apart.nodes() {
-        let node = apart.node_of(number);
-        if !lead_level(slot, graph, target, node, steps) {
-            return false;
-        }
-    }
-    true
-}
-
-// Follows the edit that gives a node its level in the other graph, if there is such a node.
-fn lead_level<L: Ledger>(
-    slot: &mut Option<Machine>,
-    graph: &mut Graph,
-    target: &Graph,
-    node: usize,
-    steps: &mut Steps<L>,
-) -> bool
-    requires covers { IfSome slot.old (Covers graph.old) }
-    requires large { IsAsLarge graph.old target.now }
-    ensures led { OnTrue result (LedIn graph.old graph.new slot.old slot.new) }
+// Gives a node its level in the other graph, if there is such a node; answers which one it had.
+fn put_level(graph: &mut Graph, target: &Graph, node: usize) -> Option<(usize, u8)>
+    requires { IsAsLarge graph.old target.now }
+    ensures before { with_level result graph.new.levels ≡ graph.old.levels }
     ensures put { graph.new ≡ with_level_of target.now graph.old node }
-    ensures large { IsAsLarge graph.new target.now }
-    ensures last { last_in slot.new ≡ last_in slot.old }
 {
     if !has_node(graph, node) {
-        return true;
+        return None;
     }
-    graphs_are_wired(graph);
     let had = graph.level(node);
     let has = target.level(node);
-    let change = Change {
-        nodes: graph.nodes(),
-        place: None,
-        level: Some((node, had)),
-    };
     graph.set_level(node, has);
-    follow(slot, graph, &change, steps)
+    Some((node, had))
 }
 
 // Whether a graph has such a node.

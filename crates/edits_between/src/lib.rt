@@ -14,5 +14,5 @@ mod comparing;
 mod differing;
 mod leading;
 
-pub use differing::Differences;
+pub use differing::{Differences, Spot};
 pub use leading::lead_by;

@@ -27,7 +27,7 @@ use Rattle.fault_stage.specs.declared.held.Held.{Held}
 use Rattle.fault_stage.specs.declared.held.Held.TheVariants as held
 use Rattle.fault_stage.specs.Building.{BuildsAnew, BuildsStage, FinishesNext, PutsLast, StaysBuilt}
 use Rattle.fault_stage.specs.Runs.{GoesIn}
-use Rattle.fault_stage.specs.Stages.{FaultData, Plain, Ready, ReadyData, ServesIn, ServesReady, StandInFront, Waits, data_of, last_in, ready_of, state_of}
+use Rattle.fault_stage.specs.Stages.{FaultData, Plain, Ready, ReadyData, ServesIn, ServesReady, StandInFront, data_of, last_in, ready_of, state_of}
 use Rattle.fault_stage.proofs.FrontLemmas.{stands_in_front}
 use Rattle.fault_stage.proofs.KnownLemmas.{known_by_last, known_held}
 
@@ -188,14 +188,3 @@ pub refused_put : (Tells Asked : Type 0) (last : List GroupTextData) (kept betwe
 refused_put Tells Asked last kept between later fault put (inl none) = inl none
 refused_put Tells Asked last kept between later fault (inl (lacks, put)) (inr (told, same, asked)) = inl lacks
 refused_put Tells Asked last kept between later fault (inr (some, still)) (inr (told, same, asked)) = inr (told, still ∙ same, asked)
-
--- ---- a machine that was led to the graph
-
--- a build in its graph is one in the graph that it was led to, and of a stage with the same texts
-pub led_builds : (large : ℕ) (own g : GraphData) (bound : Option ℕ) (state : List Tern) (spare : ℕ) (texts other : List GroupTextData) (new : FaultData)
-    (kept later before after : List GroupTextData) (result : Result ℕ BuildFault) → own ≡ g → texts ≡ other →
-    BuildsStage large own bound (Waits (record { state = state; spare = spare; texts = texts })) new kept later before after result →
-    BuildsStage large g bound (Waits (record { state = state; spare = spare; texts = other })) new kept later before after result
-led_builds large own g bound state spare texts other new kept later before after result own_is same builds =
-    subst (λ (list : List GroupTextData). BuildsStage large g bound (Waits (record { state = state; spare = spare; texts = list })) new kept later before after result) same
-    (subst (λ (h : GraphData). BuildsStage large h bound (Waits (record { state = state; spare = spare; texts = texts })) new kept later before after result) own_is builds)

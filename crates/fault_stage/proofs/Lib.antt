@@ -1,4 +1,5 @@
 pub mod FrontLemmas
+pub mod HeldLemmas
 pub mod KnownLemmas
 pub mod BuildingLemmas
 pub mod CourseLemmas

@@ -1,14 +1,16 @@
 -- What a build makes of a stage whose first run is recorded.
-use Rattle.std.specs.Prelude.{◌≡◌, ◌≢◌, ◌⊎◌, ℕ, List, Option, None, Result, Err, IfOk, OnOk, OnErr}
+use Rattle.std.specs.Prelude.{◌≡◌, ◌≢◌, ◌⊎◌, ℕ, List, Option, None, Result, Err, IfErr, IfOk, OnOk, OnErr}
 use Rattle.ternary.specs.declared.tern.Tern.{Tern}
 use Rattle.switch_paths.specs.Graphs.{GraphData}
+use Rattle.switch_paths.specs.Rails.{IsRailed}
 use Rattle.group_text.specs.Texts.{GroupTextData}
 use Rattle.group_analysis.specs.Using.{used_texts}
 use Rattle.analysis_cache.specs.Keeping.{KeptData, texts_of}
 use Rattle.circuit_texts.specs.declared.texts.BuildFault.{BuildFault}
 use Rattle.circuit_texts.specs.declared.texts.BuildFault.TheVariants.{NoMemory}
 use Rattle.circuit_texts.specs.Building.{Builds, IsCutOff}
-use Rattle.column_stage.specs.Columns.{AreAmong}
+use Rattle.circuit_texts.specs.Sizes.{TellsRefused}
+use Rattle.column_stage.specs.Columns.{AreAmong, IsSoundState}
 use Rattle.machine_laws.specs.Machines.{MachineData}
 use Rattle.machine_laws.specs.Fitting.{IsKeptBy}
 use Rattle.machine_stage.specs.Machines as whole
@@ -17,8 +19,8 @@ use Rattle.good_phases.specs.Phases.{BeginsGood, GoodData}
 use Rattle.fault_stage.specs.declared.built.Course.{Course}
 use Rattle.fault_stage.specs.declared.held.Held.{Held}
 use Rattle.fault_stage.specs.declared.held.Held.TheVariants as held
-use Rattle.fault_stage.specs.Runs.{GoesIn}
-use Rattle.fault_stage.specs.Stages.{FaultData, FitsIn, ServesIn, StandInFront, last_in, state_of}
+use Rattle.fault_stage.specs.Runs.{GoesIn, IsWell}
+use Rattle.fault_stage.specs.Stages.{FaultData, FitsIn, ServesIn, StandInFront, data_of, last_in, state_of}
 
 -- a build of a stage was done, refused or cut off: what it leaves of what is kept is what a build leaves, the state stays, and what is there then fits the
 -- graph, or is as it was
@@ -31,6 +33,29 @@ pub record BuildsStage (large : ℕ) (g : GraphData) (bound : Option ℕ) (old n
   pub last : AreAmong (last_in new) later
   pub cut_off : result ≡ Err NoMemory → IsCutOff large g (used_texts (last_in old) kept) (used_texts (last_in new) later) before after
   pub err : OnErr result (new ≡ old)
+
+-- a build may start so: the graph has rails, and each of its nodes a state
+pub record IsStart (g : GraphData) (state : List Tern) : Type 0 where
+  pub railed : IsRailed g
+  pub sound : IsSoundState g state
+
+-- a build lacked memory, or was refused: then what is kept, and what was analysed, is as it was
+abbrev pub Refuses : ℕ → GraphData → KeptData → KeptData → List GroupTextData → List GroupTextData → BuildFault → Type 0
+Refuses large g kept later before after fault = (fault ≡ NoMemory) ⊎ (TellsRefused large g fault × (later ≡ kept) × (after ≡ before))
+
+-- what a build leaves of what is kept: one that lacked memory was cut off, one that was refused left all, and the bound stays
+pub record LeavesKept {X : Type 0} (large : ℕ) (g : GraphData) (kept later : KeptData) (before after : List GroupTextData) (result : Result X BuildFault) : Type 0 where
+  pub cut_off : result ≡ Err NoMemory → IsCutOff large g (texts_of kept) (texts_of later) before after
+  pub bound : later.bound ≡ kept.bound
+  pub refused : IfErr result (Refuses large g kept later before after)
+
+-- a build of a stage was done, refused or cut off: what is held then is as it is to be, and what is kept has the bound that it had
+pub record BuildsHeld (large : ℕ) (g : GraphData) (old : FaultData) (new : Held) (kept later : KeptData) (before after : List GroupTextData)
+    (result : Result ℕ BuildFault) : Type 0 where
+  pub well : IsWell new
+  pub builds : BuildsStage large g kept.bound old (data_of new) (texts_of kept) (texts_of later) before after result
+  pub bound : later.bound ≡ kept.bound
+  pub refused : IfErr result (Refuses large g kept later before after)
 
 -- a stage is built, with up to so many members in a group without a text, and what is kept has no bound: a build would find nothing new
 abbrev pub StaysBuilt : ℕ → KeptData → Held → Type 0

@@ -16,5 +16,5 @@ pub use Rattle.column_stage.specs.Seeing.{SeesStates}
 pub use Rattle.machine_laws.specs.Fitting.{FitsGraph, Covers}
 pub use Rattle.machine_laws.specs.Machines.{KeepsBuild, KeepsParts}
 pub use Rattle.edits_between.specs.Leading.{DifferAt, IsAsLarge, LedBy, last_in}
-pub use Rattle.good_phases.specs.Phases.{BeginsGood, IsBeat, SettlesGood}
+pub use Rattle.good_phases.specs.Phases.{BeginsGood, GoodData, IsBeat, SettlesGood}
 pub use Rattle.beside_run.specs.Running.{HasLater, IsRunBeside, SettlesRun}

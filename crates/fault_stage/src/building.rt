@@ -1,10 +1,10 @@
 //! What is built: the machine of the first run, which is recorded; that of the last run, led to the graph; or a whole one.
 
-ghost use Rattle.std.specs.Prelude.{◌≡◌, ◌⊎◌, true, Err, None, Some, IfErr, IfOk, IfSome, OnErr};
+ghost use Rattle.std.specs.Prelude.{◌≡◌, ◌⊎◌, true, None, Some, IfErr, IfOk, IfSome, OnErr};
 ghost use Rattle.std.specs.Bool.{OnTrue};
-ghost use Rattle.fault_stage.specs.Words.{IsRailed, used_texts, texts_of, IsCutOff, TellsRefused, AreAmong, IsSoundState, DifferAt, BeginsGood};
-ghost use Rattle.fault_stage.specs.Building.{BeginsGoodIn, BuildsAnew, BuildsStage, FinishesNext, PutsLast, StaysBuilt};
-ghost use Rattle.fault_stage.specs.Runs.{IsBuilt, IsCovered, IsLastRun, IsLed, IsWell};
+ghost use Rattle.fault_stage.specs.Words.{IsRailed, used_texts, texts_of, TellsRefused, AreAmong, IsSoundState, DifferAt, BeginsGood, GoodData};
+ghost use Rattle.fault_stage.specs.Building.{BeginsGoodIn, BuildsAnew, BuildsHeld, BuildsStage, FinishesNext, IsStart, LeavesKept, PutsLast, StaysBuilt};
+ghost use Rattle.fault_stage.specs.Runs.{IsBuilt, IsLastRun, IsLed, IsWell};
 ghost use Rattle.fault_stage.specs.Stages.{Plain, Ready, ServesIn, ServesReady, StandInFront, Waits, data_of, last_in, ready_of, state_of, texts_held, texts_in, wait_of};
 
 use crate::beginning::{course_of, touched_in};
@@ -77,15 +77,10 @@ fn build_held<A: Analyst>(
     analyst: &mut A,
 ) -> (Held, Result<u64, BuildFault>)
     requires well { IsWell held }
-    requires railed { IsRailed graph.now }
-    requires sound { IsSoundState graph.now (state_of (data_of held)) }
+    requires starts { IsStart graph.now (state_of (data_of held)) }
     requires serves { ServesIn (data_of held) graph.now (used_texts (last_in (data_of held)) (texts_of kept.old)) }
     requires last { AreAmong (last_in (data_of held)) (texts_of kept.old) }
-    ensures well { IsWell result.0 }
-    ensures builds { BuildsStage large graph.now kept.old.bound (data_of held) (data_of result.0) (texts_of kept.old) (texts_of kept.new) (A.analysed analyst.old) (A.analysed analyst.new) result.1 }
-    ensures bound { kept.new.bound ≡ kept.old.bound }
-    ensures refused { IfErr result.1 (λ fault. (fault ≡ BuildFault.NoMemory)
-        ⊎ (TellsRefused large graph.now fault × (kept.new ≡ kept.old) × (A.analysed analyst.new ≡ A.analysed analyst.old))) }
+    ensures { BuildsHeld large graph.now (data_of held) result.0 kept.old kept.new (A.analysed analyst.old) (A.analysed analyst.new) result.1 }
 {
     match held {
         Held::Whole(stage) => build_whole(alloc, stage, graph, large, kept, analyst),
@@ -103,15 +98,10 @@ fn build_whole<A: Analyst>(
     kept: &mut Kept,
     analyst: &mut A,
 ) -> (Held, Result<u64, BuildFault>)
-    requires railed { IsRailed graph.now }
-    requires sound { IsSoundState graph.now stage.state }
+    requires starts { IsStart graph.now stage.state }
     requires serves { ServesIn (Plain stage) graph.now (used_texts (last_in (Plain stage)) (texts_of kept.old)) }
     requires last { AreAmong (last_in (Plain stage)) (texts_of kept.old) }
-    ensures well { IsWell result.0 }
-    ensures builds { BuildsStage large graph.now kept.old.bound (Plain stage) (data_of result.0) (texts_of kept.old) (texts_of kept.new) (A.analysed analyst.old) (A.analysed analyst.new) result.1 }
-    ensures bound { kept.new.bound ≡ kept.old.bound }
-    ensures refused { IfErr result.1 (λ fault. (fault ≡ BuildFault.NoMemory)
-        ⊎ (TellsRefused large graph.now fault × (kept.new ≡ kept.old) × (A.analysed analyst.new ≡ A.analysed analyst.old))) }
+    ensures { BuildsHeld large graph.now (Plain stage) result.0 kept.old kept.new (A.analysed analyst.old) (A.analysed analyst.new) result.1 }
 {
     let mut stage = stage;
     let told = stage.build(alloc, graph, large, kept, analyst);
@@ -129,14 +119,9 @@ fn build_again<A: Analyst>(
     analyst: &mut A,
 ) -> (Held, Result<u64, BuildFault>)
     requires built { IsBuilt built }
-    requires railed { IsRailed graph.now }
-    requires sound { IsSoundState graph.now built.state.items }
+    requires starts { IsStart graph.now built.state.items }
     requires serves { ServesReady (ready_of built) graph.now (texts_of kept.old) }
-    ensures well { IsWell result.0 }
-    ensures builds { BuildsStage large graph.now kept.old.bound (Ready (ready_of built)) (data_of result.0) (texts_of kept.old) (texts_of kept.new) (A.analysed analyst.old) (A.analysed analyst.new) result.1 }
-    ensures bound { kept.new.bound ≡ kept.old.bound }
-    ensures refused { IfErr result.1 (λ fault. (fault ≡ BuildFault.NoMemory)
-        ⊎ (TellsRefused large graph.now fault × (kept.new ≡ kept.old) × (A.analysed analyst.new ≡ A.analysed analyst.old))) }
+    ensures { BuildsHeld large graph.now (Ready (ready_of built)) result.0 kept.old kept.new (A.analysed analyst.old) (A.analysed analyst.new) result.1 }
 {
     if is_again(large, built.large, kept) {
         return (Held::Built(built), Ok(0));
@@ -171,14 +156,9 @@ fn build_waiting<A: Analyst>(
     analyst: &mut A,
 ) -> (Held, Result<u64, BuildFault>)
     requires last_run { IfSome waiting.last_run IsLastRun }
-    requires railed { IsRailed graph.now }
-    requires sound { IsSoundState graph.now waiting.state.items }
+    requires starts { IsStart graph.now waiting.state.items }
     requires front { StandInFront (texts_held waiting.last_run) (texts_of kept.old) }
-    ensures well { IsWell result.0 }
-    ensures builds { BuildsStage large graph.now kept.old.bound (Waits (wait_of waiting)) (data_of result.0) (texts_of kept.old) (texts_of kept.new) (A.analysed analyst.old) (A.analysed analyst.new) result.1 }
-    ensures bound { kept.new.bound ≡ kept.old.bound }
-    ensures refused { IfErr result.1 (λ fault. (fault ≡ BuildFault.NoMemory)
-        ⊎ (TellsRefused large graph.now fault × (kept.new ≡ kept.old) × (A.analysed analyst.new ≡ A.analysed analyst.old))) }
+    ensures { BuildsHeld large graph.now (Waits (wait_of waiting)) result.0 kept.old kept.new (A.analysed analyst.old) (A.analysed analyst.new) result.1 }
 {
     let Waiting { state, last_run } = waiting;
     match last_run {
@@ -196,23 +176,12 @@ fn build_first<A: Analyst>(
     kept: &mut Kept,
     analyst: &mut A,
 ) -> (Held, Result<u64, BuildFault>)
-    requires railed { IsRailed graph.now }
-    requires sound { IsSoundState graph.now state.items }
-    ensures well { IsWell result.0 }
-    ensures builds { BuildsStage large graph.now kept.old.bound (Waits (wait_of (record { state = state; last_run = None }))) (data_of result.0) (texts_of kept.old) (texts_of kept.new) (A.analysed analyst.old) (A.analysed analyst.new) result.1 }
-    ensures bound { kept.new.bound ≡ kept.old.bound }
-    ensures refused { IfErr result.1 (λ fault. (fault ≡ BuildFault.NoMemory)
-        ⊎ (TellsRefused large graph.now fault × (kept.new ≡ kept.old) × (A.analysed analyst.new ≡ A.analysed analyst.old))) }
+    requires { IsStart graph.now state.items }
+    ensures { BuildsHeld large graph.now (Waits (wait_of (record { state = state; last_run = None }))) result.0 kept.old kept.new (A.analysed analyst.old) (A.analysed analyst.new) result.1 }
 {
     match record_of(alloc, graph, &state) {
         Ok((own, good)) => build_recorded(alloc, state, own, good, large, kept, analyst),
-        Err(_) => {
-            let waiting = Waiting {
-                state,
-                last_run: None,
-            };
-            build_in_place(alloc, waiting, graph, large, kept, analyst)
-        }
+        Err(_) => build_in_place(alloc, state, None, graph, large, kept, analyst),
     }
 }
 
@@ -227,13 +196,8 @@ fn build_recorded<A: Analyst>(
     analyst: &mut A,
 ) -> (Held, Result<u64, BuildFault>)
     requires begins { BeginsGood graph state.items good }
-    requires railed { IsRailed graph }
-    requires sound { IsSoundState graph state.items }
-    ensures well { IsWell result.0 }
-    ensures builds { BuildsStage large graph kept.old.bound (Waits (wait_of (record { state = state; last_run = None }))) (data_of result.0) (texts_of kept.old) (texts_of kept.new) (A.analysed analyst.old) (A.analysed analyst.new) result.1 }
-    ensures bound { kept.new.bound ≡ kept.old.bound }
-    ensures refused { IfErr result.1 (λ fault. (fault ≡ BuildFault.NoMemory)
-        ⊎ (TellsRefused large graph fault × (kept.new ≡ kept.old) × (A.analysed analyst.new ≡ A.analysed analyst.old))) }
+    requires starts { IsStart graph state.items }
+    ensures { BuildsHeld large graph (Waits (wait_of (record { state = state; last_run = None }))) result.0 kept.old kept.new (A.analysed analyst.old) (A.analysed analyst.new) result.1 }
 {
     match Machine::build(alloc, &graph, &state, large, Codes::Short, kept, analyst) {
         Ok((machine, fresh)) => {
@@ -279,23 +243,14 @@ fn build_next<A: Analyst>(
     analyst: &mut A,
 ) -> (Held, Result<u64, BuildFault>)
     requires last_run { IsLastRun last_run }
-    requires railed { IsRailed graph.now }
-    requires sound { IsSoundState graph.now state.items }
+    requires starts { IsStart graph.now state.items }
     requires front { StandInFront (texts_in last_run.machine) (texts_of kept.old) }
-    ensures well { IsWell result.0 }
-    ensures builds { BuildsStage large graph.now kept.old.bound (Waits (wait_of (record { state = state; last_run = Some last_run }))) (data_of result.0) (texts_of kept.old) (texts_of kept.new) (A.analysed analyst.old) (A.analysed analyst.new) result.1 }
-    ensures bound { kept.new.bound ≡ kept.old.bound }
-    ensures refused { IfErr result.1 (λ fault. (fault ≡ BuildFault.NoMemory)
-        ⊎ (TellsRefused large graph.now fault × (kept.new ≡ kept.old) × (A.analysed analyst.new ≡ A.analysed analyst.old))) }
+    ensures { BuildsHeld large graph.now (Waits (wait_of (record { state = state; last_run = Some last_run }))) result.0 kept.old kept.new (A.analysed analyst.old) (A.analysed analyst.new) result.1 }
 {
     let mut last_run = last_run;
     let mut count = 0;
     if !last_run.lead(graph, &state, &mut count) {
-        let waiting = Waiting {
-            state,
-            last_run: Some(last_run),
-        };
-        return build_in_place(alloc, waiting, graph, large, kept, analyst);
+        return build_in_place(alloc, state, Some(last_run), graph, large, kept, analyst);
     }
     let LastRun {
         machine,
@@ -307,78 +262,12 @@ fn build_next<A: Analyst>(
     let Some(machine) = machine else {
         unreachable!();
     };
-    if is_sparse(&machine) {
-        return build_fresh(
-            alloc, state, machine, own, good, apart, large, kept, analyst,
-        );
-    }
     finish(
         alloc, state, machine, own, good, apart, large, count, kept, analyst,
     )
 }
 
-// Whether most of a machine's parts, and more than 16, were left by groups that are gone.
-fn is_sparse(machine: &Machine) -> bool {
-    let left = machine.parts().saturating_sub(machine.groups());
-    left > machine.groups() && left > MOST_LEFT
-}
-
-// Builds a machine in place of one that covers the graph, but has too many parts that groups left which are gone. Its run goes by itself.
-fn build_fresh<A: Analyst>(
-    alloc: Global,
-    state: Vec<Tern>,
-    machine: Machine,
-    graph: Graph,
-    good: GoodPhases,
-    apart: Differences,
-    large: usize,
-    kept: &mut Kept,
-    analyst: &mut A,
-) -> (Held, Result<u64, BuildFault>)
-    requires covered { IsCovered graph machine }
-    requires apart { DifferAt graph good.graph apart }
-    requires railed { IsRailed graph }
-    requires sound { IsSoundState graph state.items }
-    requires front { StandInFront machine.last (texts_of kept.old) }
-    ensures well { IsWell result.0 }
-    ensures builds { BuildsStage large graph kept.old.bound (Waits (wait_of (record { state = state; last_run = Some (record { machine = Some machine; covered = true; graph = graph; good = good; apart = apart }) })))
-        (data_of result.0) (texts_of kept.old) (texts_of kept.new) (A.analysed analyst.old) (A.analysed analyst.new) result.1 }
-    ensures bound { kept.new.bound ≡ kept.old.bound }
-    ensures refused { IfErr result.1 (λ fault. (fault ≡ BuildFault.NoMemory)
-        ⊎ (TellsRefused large graph fault × (kept.new ≡ kept.old) × (A.analysed analyst.new ≡ A.analysed analyst.old))) }
-{
-    match Machine::build(alloc, &graph, &state, large, Codes::Short, kept, analyst) {
-        Ok((made, fresh)) => {
-            let built = Built {
-                machine: made,
-                graph,
-                state,
-                good,
-                apart,
-                large,
-                course: Course::Alone,
-                passes: no_passes(alloc),
-            };
-            (Held::Built(built), Ok(fresh))
-        }
-        Err(fault) => {
-            let last_run = LastRun {
-                machine: Some(machine),
-                covered: true,
-                graph,
-                good,
-                apart,
-            };
-            let waiting = Waiting {
-                state,
-                last_run: Some(last_run),
-            };
-            (Held::Waiting(waiting), Err(fault))
-        }
-    }
-}
-
-// Has a machine finished that was led to a graph by way of the good run's, where it had so many parts; its run goes beside the recorded one then.
+// Has a machine finished that was led to a graph by way of the good run's, where it had so many parts.
 fn finish<A: Analyst>(
     alloc: Global,
     state: Vec<Tern>,
@@ -393,15 +282,10 @@ fn finish<A: Analyst>(
 ) -> (Held, Result<u64, BuildFault>)
     requires led { IsLed good.graph graph count state.items machine }
     requires apart { DifferAt graph good.graph apart }
-    requires railed { IsRailed graph }
-    requires sound { IsSoundState graph state.items }
+    requires starts { IsStart graph state.items }
     requires front { StandInFront machine.last (texts_of kept.old) }
-    ensures well { IsWell result.0 }
-    ensures builds { BuildsStage large graph kept.old.bound (Waits (wait_of (record { state = state; last_run = Some (record { machine = Some machine; covered = true; graph = graph; good = good; apart = apart }) })))
-        (data_of result.0) (texts_of kept.old) (texts_of kept.new) (A.analysed analyst.old) (A.analysed analyst.new) result.1 }
-    ensures bound { kept.new.bound ≡ kept.old.bound }
-    ensures refused { IfErr result.1 (λ fault. (fault ≡ BuildFault.NoMemory)
-        ⊎ (TellsRefused large graph fault × (kept.new ≡ kept.old) × (A.analysed analyst.new ≡ A.analysed analyst.old))) }
+    ensures { BuildsHeld large graph (Waits (wait_of (record { state = state; last_run = Some (record { machine = Some machine; covered = true; graph = graph; good = good; apart = apart }) })))
+        result.0 kept.old kept.new (A.analysed analyst.old) (A.analysed analyst.new) result.1 }
 {
     let mut machine = machine;
     match finish_beside(
@@ -445,8 +329,9 @@ fn finish<A: Analyst>(
     }
 }
 
-// Gives the stale parts of a machine their codes, puts its texts in front of what is kept, and answers how it goes on, and how many
-// texts were new. After a refusal it is as before; if memory lacked, its texts stand in front of what is kept.
+// Gives the stale parts of a machine their codes, puts its texts in front of what is kept, and answers how it goes on, and how many texts were new: beside
+// the recorded run, if there is memory for that. If too many of its parts were left by groups that are gone, one is built in its place. After a refusal
+// it is as before; if memory lacked, its texts stand in front of what is kept.
 fn finish_beside<A: Analyst>(
     alloc: Global,
     state: &[Tern],
@@ -462,12 +347,12 @@ fn finish_beside<A: Analyst>(
     requires railed { IsRailed graph.now }
     requires front { StandInFront machine.old.last (texts_of kept.old) }
     ensures made { IfOk result (λ made. FinishesNext large graph.now kept.old.bound good.now state.now machine.new (texts_of kept.old) (texts_of kept.new) (A.analysed analyst.old) (A.analysed analyst.new) made.0 made.1) }
-    ensures cut_off { result ≡ Err BuildFault.NoMemory → IsCutOff large graph.now (texts_of kept.old) (texts_of kept.new) (A.analysed analyst.old) (A.analysed analyst.new) }
-    ensures bound { kept.new.bound ≡ kept.old.bound }
-    ensures refused { IfErr result (λ fault. (fault ≡ BuildFault.NoMemory)
-        ⊎ (TellsRefused large graph.now fault × (kept.new ≡ kept.old) × (A.analysed analyst.new ≡ A.analysed analyst.old))) }
+    ensures leaves { LeavesKept large graph.now kept.old kept.new (A.analysed analyst.old) (A.analysed analyst.new) result }
     ensures err { OnErr result (machine.new ≡ machine.old) }
 {
+    if is_sparse(machine) {
+        return build_fresh(alloc, state, machine, graph, large, kept, analyst);
+    }
     let touched = touched_in(alloc, machine, count);
     machine.has_a_mark_for_each_part();
     match machine.finish(graph, large, Codes::Short, kept, analyst) {
@@ -481,6 +366,36 @@ fn finish_beside<A: Analyst>(
             put_last(machine, &fault, kept);
             Err(fault)
         }
+    }
+}
+
+// Whether most of a machine's parts, and more than 16, were left by groups that are gone.
+fn is_sparse(machine: &Machine) -> bool {
+    let left = machine.parts().saturating_sub(machine.groups());
+    left > machine.groups() && left > MOST_LEFT
+}
+
+// Builds a machine in place of one that has too many parts that groups left which are gone. Its run goes by itself.
+fn build_fresh<A: Analyst>(
+    alloc: Global,
+    state: &[Tern],
+    machine: &mut Machine,
+    graph: &Graph,
+    large: usize,
+    kept: &mut Kept,
+    analyst: &mut A,
+) -> Result<(Course, u64), BuildFault>
+    requires { IsStart graph.now state.now }
+    ensures made { (good : GoodData) → IfOk result (λ made. FinishesNext large graph.now kept.old.bound good state.now machine.new (texts_of kept.old) (texts_of kept.new) (A.analysed analyst.old) (A.analysed analyst.new) made.0 made.1) }
+    ensures leaves { LeavesKept large graph.now kept.old kept.new (A.analysed analyst.old) (A.analysed analyst.new) result }
+    ensures err { OnErr result (machine.new ≡ machine.old) }
+{
+    match Machine::build(alloc, graph, state, large, Codes::Short, kept, analyst) {
+        Ok((made, fresh)) => {
+            *machine = made;
+            Ok((Course::Alone, fresh))
+        }
+        Err(fault) => Err(fault),
     }
 }
 
@@ -500,25 +415,24 @@ fn put_last(machine: &Machine, fault: &BuildFault, kept: &mut Kept)
 // Builds a whole machine in place of what waits; after a refusal that waits as before.
 fn build_in_place<A: Analyst>(
     alloc: Global,
-    waiting: Waiting,
+    state: Vec<Tern>,
+    last_run: Option<LastRun>,
     graph: &Graph,
     large: usize,
     kept: &mut Kept,
     analyst: &mut A,
 ) -> (Held, Result<u64, BuildFault>)
-    requires last_run { IfSome waiting.last_run IsLastRun }
-    requires railed { IsRailed graph.now }
-    requires sound { IsSoundState graph.now waiting.state.items }
-    requires front { StandInFront (texts_held waiting.last_run) (texts_of kept.old) }
-    ensures well { IsWell result.0 }
-    ensures builds { BuildsStage large graph.now kept.old.bound (Waits (wait_of waiting)) (data_of result.0) (texts_of kept.old) (texts_of kept.new) (A.analysed analyst.old) (A.analysed analyst.new) result.1 }
-    ensures bound { kept.new.bound ≡ kept.old.bound }
-    ensures refused { IfErr result.1 (λ fault. (fault ≡ BuildFault.NoMemory)
-        ⊎ (TellsRefused large graph.now fault × (kept.new ≡ kept.old) × (A.analysed analyst.new ≡ A.analysed analyst.old))) }
+    requires last_run { IfSome last_run IsLastRun }
+    requires starts { IsStart graph.now state.items }
+    requires front { StandInFront (texts_held last_run) (texts_of kept.old) }
+    ensures { BuildsHeld large graph.now (Waits (wait_of (record { state = state; last_run = last_run }))) result.0 kept.old kept.new (A.analysed analyst.old) (A.analysed analyst.new) result.1 }
 {
-    match build_anew(alloc, &waiting.state, graph, large, kept, analyst) {
+    match build_anew(alloc, &state, graph, large, kept, analyst) {
         Ok((stage, fresh)) => (Held::Whole(stage), Ok(fresh)),
-        Err(fault) => (Held::Waiting(waiting), Err(fault)),
+        Err(fault) => {
+            let waiting = Waiting { state, last_run };
+            (Held::Waiting(waiting), Err(fault))
+        }
     }
 }
 
@@ -531,13 +445,9 @@ fn build_anew<A: Analyst>(
     kept: &mut Kept,
     analyst: &mut A,
 ) -> Result<(MachineStage, u64), BuildFault>
-    requires railed { IsRailed graph.now }
-    requires sound { IsSoundState graph.now state.now }
+    requires { IsStart graph.now state.now }
     ensures made { IfOk result (λ made. BuildsAnew large graph.now kept.old.bound state.now (texts_of kept.old) (texts_of kept.new) (A.analysed analyst.old) (A.analysed analyst.new) made.0 made.1) }
-    ensures cut_off { result ≡ Err BuildFault.NoMemory → IsCutOff large graph.now (texts_of kept.old) (texts_of kept.new) (A.analysed analyst.old) (A.analysed analyst.new) }
-    ensures bound { kept.new.bound ≡ kept.old.bound }
-    ensures refused { IfErr result (λ fault. (fault ≡ BuildFault.NoMemory)
-        ⊎ (TellsRefused large graph.now fault × (kept.new ≡ kept.old) × (A.analysed analyst.new ≡ A.analysed analyst.old))) }
+    ensures leaves { LeavesKept large graph.now kept.old kept.new (A.analysed analyst.old) (A.analysed analyst.new) result }
 {
     let copy = Vec::from_slice(alloc, state)?;
     let mut stage = MachineStage::still(copy);

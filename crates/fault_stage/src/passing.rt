@@ -35,7 +35,8 @@ pub(crate) fn no_passes(alloc: Global) -> Vec<Passed>
 }
 
 /// Settles by itself, and shows each state that it passes through. If nobody looks, a phase that was taken before from the same state, under
-/// the same limit, leads where it led: a circuit whose states come back goes round at the cost of a look at its states.
+/// the same limit, leads where it led: a circuit whose states come back goes round at the cost of a look at its states. Else the phase is
+/// remembered.
 pub(crate) fn settle_alone<O: Onlooker>(
     machine: &mut Machine,
     graph: &Graph,
@@ -58,7 +59,11 @@ pub(crate) fn settle_alone<O: Onlooker>(
     }
     match go_if_passed(machine, graph, state, passes, limit) {
         Some(told) => told,
-        None => settle_and_keep(machine, graph, state, passes, limit, onlooker),
+        None => {
+            let told = settle_shown(machine, graph, state, limit, onlooker);
+            keep(graph, state, machine.state(), limit, told, passes);
+            told
+        }
     }
 }
 
@@ -149,29 +154,6 @@ fn go_to(machine: &mut Machine, graph: &Graph, passed: &Passed) -> Settled
 {
     leave(machine, graph, &passed.end);
     passed.told
-}
-
-// Settles by itself, and remembers the phase.
-fn settle_and_keep<O: Onlooker>(
-    machine: &mut Machine,
-    graph: &Graph,
-    state: &[Tern],
-    passes: &mut Vec<Passed>,
-    limit: u64,
-    onlooker: &mut O,
-) -> Settled
-    requires goes { GoesAlone graph.now machine.old state.now }
-    requires passes { All (IsPassed graph.now) passes.old.items }
-    requires low { 1 ≤ limit }
-    requires high { limit ≤ MOST_LIMIT }
-    requires knows { O.knows onlooker.old state.now }
-    ensures settles { SettlesAlone O.see graph.now limit result.steps result.joined state.now machine.old machine.new (O.seen onlooker.old) (O.seen onlooker.new) }
-    ensures passes { All (IsPassed graph.now) passes.new.items }
-    ensures knows { O.knows onlooker.new machine.new.state }
-{
-    let told = settle_shown(machine, graph, state, limit, onlooker);
-    keep(graph, state, machine.state(), limit, told, passes);
-    told
 }
 
 // Remembers a phase, if there is memory for it.

@@ -1,5 +1,5 @@
 -- What holds of a machine holds of it without its room, and the other way round: no fact but the room itself speaks of it.
-use Rattle.std.proofs.Common.{◌≡◌, ℕ, ◌<◌, Bool, false, List, Some, None, refl, sym, subst, rules}
+use Rattle.std.proofs.Common.{◌≡◌, ℕ, ◌<◌, Bool, false, List, Option, Some, None, refl, sym, ap, subst, ◌∙◌, rules}
 use Rattle.ternary.specs.declared.tern.Tern.{Tern}
 use Rattle.switch_paths.specs.Graphs.{GraphData}
 use Rattle.channel_groups.specs.declared.change.Change.{Change}
@@ -7,8 +7,11 @@ use Rattle.machine_parts.specs.Parts.{HasMember}
 use Rattle.machine_laws.specs.Machines.{MachineData, Places, IsAtRest}
 use Rattle.machine_laws.specs.Fitting.{Covers, FitsGraph}
 use Rattle.machine_laws.specs.Editing.{Edits, Finishes, StaysKnown}
+use Rattle.machine_stage.specs.declared.stage.Held.{Held}
+use Rattle.machine_stage.specs.declared.stage.Held.TheVariants.{Built}
+use Rattle.machine_stage.specs.Held.{machine_held}
 use Rattle.machine_stage.specs.Machines.{FitsIn, without_room}
-use Rattle.machine_stage.specs.Stages.{BuiltFrom, PutsNode, TakesStep, TakesPhase}
+use Rattle.machine_stage.specs.Stages.{BuiltFrom, MovesBy, PutsNode, TakesStep, TakesPhase}
 
 -- another amount of room
 abbrev roomed : MachineData → ℕ → MachineData
@@ -55,6 +58,24 @@ fits_inside g machine built =
     let same : Some built.machine ≡ Some (without_room machine) = sym built.there in
     let is : built.machine ≡ without_room machine = cc in
     fits-whole g machine (subst (FitsGraph g) is built.fits)
+
+-- of what is held, the machine that is there fits with its room
+pub held_fits : (g : GraphData) (machine : MachineData) (held : Held) (found : Option MachineData) → held ≡ Built machine → machine_held held ≡ found →
+    FitsIn g found → FitsGraph g machine
+held_fits g machine held found is there fits = fits_inside g machine (subst (FitsIn g) (sym there ∙ ap machine_held is) fits)
+
+-- and a state that stands alone is no machine that fits
+pub alone_fits : (g : GraphData) (held : Held) (found : Option MachineData) → machine_held held ≡ None → machine_held held ≡ found → FitsIn g found → ⊥
+alone_fits g held found is there fits =
+    let none : None ≡ Some fits.machine = sym is ∙ (there ∙ fits.there) in
+    absurd (cc (none))
+
+-- it moves
+pub held_moves : (Leads : MachineData → MachineData → Type 0) (old new : MachineData) (before after : ℕ) → Leads (without_room old) (without_room new) →
+    MovesBy Leads (record { state = old.state; machine = Some (without_room old); spare = before })
+    (record { state = new.state; machine = Some (without_room new); spare = after })
+held_moves Leads old new before after leads =
+    record { before = without_room old; after = without_room new; was = refl; there = refl; from = refl; to = refl; leads = leads }
 
 -- its stale parts got their codes
 pub built_finished : (large : ℕ) (g : GraphData) (old new : MachineData) (before after : ℕ) → Finishes g old new → StaysKnown large old new →

@@ -1,55 +1,28 @@
--- The machine was built, and goes by itself; or the one that was there still waits.
-use Rattle.std.proofs.Common.{true, Some, refl, sym, subst, ◌∙◌}
-use Rattle.std.specs.Prelude.{All}
-use Rattle.std.proofs.lemmas.List.Elements.{All-nil}
+-- The machine was built, and goes by itself.
 use Rattle.analysis_cache.specs.Keeping.{texts_of}
-use Rattle.fault_stage.specs.Passing.{IsPassed}
-use Rattle.fault_stage.specs.Stages.{Waits, wait_of}
-use Rattle.fault_stage.proofs.BuildingLemmas.{built_ready, front_built, not_built}
-use Rattle.fault_stage.proofs.FrontLemmas.{cut_or_refused, front_cut}
+use Rattle.fault_stage.proofs.BuildingLemmas.{front_built}
+use Rattle.fault_stage.proofs.HeldLemmas.{leaves_done, leaves_undone}
 use Rattle.fault_stage.proofs.KnownLemmas.{known_by_last}
 use Rattle.fault_stage.proofs.building.build_fresh.Goals as goal
 
-pub build-requires-clause-counted : goal.build-requires-clause-counted
-build-requires-clause-counted g c = rw c.deref.ensures.value c.requires.sound.counted
+pub build-requires : goal.build-requires
+build-requires g c = record { counted = c.requires.sound.counted; railed = c.requires.railed; sound = c.requires.sound.sound }
 
-pub build-requires-clause-sound : goal.build-requires-clause-sound
-build-requires-clause-sound g c = rw c.deref.ensures.value c.requires.sound.sound
-
-pub returns-in-Ok-clause-well : goal.returns-in-Ok-clause-well
-returns-in-Ok-clause-well g c =
+pub returns-in-Ok-clause-made : goal.returns-in-Ok-clause-made
+returns-in-Ok-clause-made g c = λ good.
     let made = c.in-Ok.ensures in record {
-      counted = c.requires.sound.counted;
-      railed = c.requires.railed;
-      sound = c.requires.sound.sound;
-      known = known_by_last c.args.large c.args.graph c.args.kept.now.bound (texts_of c.args.kept.now) (texts_of c.build.new.kept) _ _ c.in-Ok.fresh c.in-Ok.made
+      goes = record { fits = made.fits; state_is = made.fresh.0 };
+      known = known_by_last c.args.large c.args.graph.now c.args.kept.now.bound (texts_of c.args.kept.now) (texts_of c.build.new.kept) _ _ c.in-Ok.fresh c.in-Ok.made
           made.fits made.last made.builds;
-      goes = record { fits = made.fits; state_is = made.fresh.0 ∙ c.deref.ensures.value };
-      passes = subst (All (IsPassed c.args.graph)) (sym c.no_passes.ensures) (All-nil _);
-      apart = c.requires.apart;
+      front = front_built c.args.large c.args.graph.now c.args.kept.now.bound (texts_of c.args.kept.now) (texts_of c.build.new.kept) _ _ c.in-Ok.fresh c.in-Ok.made
+          made.last made.builds;
+      builds = made.builds;
     }
 
-pub returns-in-Ok-clause-builds : goal.returns-in-Ok-clause-builds
-returns-in-Ok-clause-builds g c =
-    let made = c.in-Ok.ensures in
-    let old = Waits (wait_of (record {
-      state = c.args.state;
-      last_run = Some (record { machine = Some c.args.machine; covered = true; graph = c.args.graph; good = c.args.good; apart = c.args.apart });
-    })) in
-    built_ready c.args.large c.args.graph c.args.kept.now.bound old (texts_of c.args.kept.now) (texts_of c.build.new.kept) _ _ refl _ c.in-Ok.fresh refl refl
-    refl made.builds
-    (front_built c.args.large c.args.graph c.args.kept.now.bound (texts_of c.args.kept.now) (texts_of c.build.new.kept) _ _ c.in-Ok.fresh c.in-Ok.made made.last made.builds)
+pub returns-in-Ok-clause-leaves : goal.returns-in-Ok-clause-leaves
+returns-in-Ok-clause-leaves g c = leaves_done c.args.large c.args.graph.now c.args.kept.now c.build.new.kept _ _ _ c.build.ensures.bound
 
-pub returns-in-Err-clause-well : goal.returns-in-Err-clause-well
-returns-in-Err-clause-well g c = λ covered. record { machine = c.requires.covered; apart = c.requires.apart }
-
-pub returns-in-Err-clause-builds : goal.returns-in-Err-clause-builds
-returns-in-Err-clause-builds g c =
-    let old = Waits (wait_of (record {
-      state = c.args.state;
-      last_run = Some (record { machine = Some c.args.machine; covered = true; graph = c.args.graph; good = c.args.good; apart = c.args.apart });
-    })) in
-    let cut = cut_or_refused c.args.large c.args.graph c.args.kept.now c.build.new.kept _ _ c.build.result c.in-Err.fault c.in-Err.is c.in-Err.ensures.refused
-    c.build.ensures.cut_off in
-    not_built c.args.large c.args.graph c.args.kept.now.bound old (texts_of c.args.kept.now) (texts_of c.build.new.kept) _ _ refl c.in-Err.fault
-    (front_cut c.args.large c.args.graph c.args.machine.last (texts_of c.args.kept.now) (texts_of c.build.new.kept) _ _ c.requires.front cut) cut
+pub returns-in-Err-clause-leaves : goal.returns-in-Err-clause-leaves
+returns-in-Err-clause-leaves g c =
+    leaves_undone c.args.large c.args.graph.now c.args.kept.now c.build.new.kept _ _ c.build.result c.in-Err.fault c.in-Err.is c.build.ensures.bound
+    c.build.ensures.cut_off c.in-Err.ensures.refused

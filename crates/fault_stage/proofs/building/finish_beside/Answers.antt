@@ -1,5 +1,6 @@
 -- The machine was led to the graph with the texts of its last build in front of what is kept.
-use Rattle.std.proofs.Common.{◌≡◌, Err, sym, ap, subst, ◌∙◌}
+use Rattle.std.proofs.Common.{◌≡◌, length, Err, sym, ap, subst, ◌∙◌, arith}
+use Rattle.switch_paths.specs.Rails.{IsSound}
 use Rattle.analysis_cache.specs.Keeping.{texts_of}
 use Rattle.circuit_texts.specs.declared.texts.BuildFault.{BuildFault}
 use Rattle.circuit_texts.specs.declared.texts.BuildFault.TheVariants.{NoMemory}
@@ -7,9 +8,20 @@ use Rattle.column_stage.specs.Columns.{AreAmong}
 use Rattle.machine_laws.specs.Machines.{MachineData}
 use Rattle.fault_stage.specs.Building.{PutsLast}
 use Rattle.fault_stage.proofs.BuildingLemmas.{cut_put, finished_next, grown_among, refused_put}
+use Rattle.fault_stage.proofs.HeldLemmas.{leaves_done}
 use Rattle.fault_stage.proofs.KnownLemmas.{known_among}
 use Rattle.fault_stage.proofs.LeadingLemmas.{touched_if}
 use Rattle.fault_stage.proofs.building.finish_beside.Goals as goal
+
+pub build_fresh-requires : goal.build_fresh-requires
+build_fresh-requires g c =
+    let led = c.requires.led in record {
+      railed = c.requires.railed;
+      sound = record { counted = omega (arith, ap length led.state_is, led.covered.covers.counted); sound = subst IsSound led.state_is led.covered.sound };
+    }
+
+pub returns-then-is_sparse-clause-made : goal.returns-then-is_sparse-clause-made
+returns-then-is_sparse-clause-made g c = c.build_fresh.ensures.made c.args.good.now
 
 pub finish-requires : goal.finish-requires
 finish-requires g c =
@@ -47,14 +59,18 @@ put_last-requires g c =
     subst (λ (m : MachineData). AreAmong m.last (texts_of c.finish.new.kept)) (sym c.in-Err.ensures.err)
     (grown_among c.args.machine.now.last c.args.kept.now c.finish.new.kept c.requires.front.among c.in-Err.ensures.grown)
 
-pub returns-in-Err-clause-cut_off : goal.returns-in-Err-clause-cut_off
-returns-in-Err-clause-cut_off g c = λ is.
-    let none : c.in-Err.fault ≡ NoMemory = cc in
-    let lacks : c.finish.result ≡ Err NoMemory = c.in-Err.is ∙ ap (λ (fault : BuildFault). Err fault) none in
-    cut_put c.args.large c.args.graph.now c.args.machine.now.last c.args.kept.now c.finish.new.kept c.put_last.new.kept _ _ c.in-Err.fault c.requires.front
-    (subst (λ (m : MachineData). PutsLast m.last c.in-Err.fault c.finish.new.kept c.put_last.new.kept) c.in-Err.ensures.err c.put_last.ensures.puts) none
-    (c.finish.ensures.cut_off lacks)
+pub returns-in-Ok-clause-leaves : goal.returns-in-Ok-clause-leaves
+returns-in-Ok-clause-leaves g c =
+    leaves_done c.args.large c.args.graph.now c.args.kept.now c.use_last.new.kept _ _ _ (c.use_last.ensures.bound ∙ c.finish.ensures.bound)
 
-pub returns-in-Err-clause-refused : goal.returns-in-Err-clause-refused
-returns-in-Err-clause-refused g c =
-    refused_put _ _ c.finish.new.self.last c.args.kept.now c.finish.new.kept c.put_last.new.kept c.in-Err.fault c.put_last.ensures.puts c.in-Err.ensures.refused
+pub returns-in-Err-clause-leaves : goal.returns-in-Err-clause-leaves
+returns-in-Err-clause-leaves g c = record {
+  cut_off = λ is.
+      let none : c.in-Err.fault ≡ NoMemory = cc in
+      let lacks : c.finish.result ≡ Err NoMemory = c.in-Err.is ∙ ap (λ (fault : BuildFault). Err fault) none in
+      cut_put c.args.large c.args.graph.now c.args.machine.now.last c.args.kept.now c.finish.new.kept c.put_last.new.kept _ _ c.in-Err.fault c.requires.front
+      (subst (λ (m : MachineData). PutsLast m.last c.in-Err.fault c.finish.new.kept c.put_last.new.kept) c.in-Err.ensures.err c.put_last.ensures.puts) none
+      (c.finish.ensures.cut_off lacks);
+  bound = c.put_last.ensures.bound ∙ c.finish.ensures.bound;
+  refused = refused_put _ _ c.finish.new.self.last c.args.kept.now c.finish.new.kept c.put_last.new.kept c.in-Err.fault c.put_last.ensures.puts c.in-Err.ensures.refused;
+}

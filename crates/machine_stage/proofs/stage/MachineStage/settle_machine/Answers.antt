@@ -1,34 +1,23 @@
 -- There is a machine, and its phase is the stage's.
-use Rattle.std.proofs.Common.{◌≡◌, None, Some, refl, sym, ap, subst, ◌∙◌}
-use Rattle.machine_stage.specs.Machines.{StageData, FitsIn, without_room}
-use Rattle.machine_stage.proofs.RoomLemmas.{fits_inside, phase-told}
+use Rattle.std.proofs.Common.{ap}
 use Rattle.machine_stage.specs.Held.{machine_held}
+use Rattle.machine_stage.specs.Machines.{StageData}
+use Rattle.machine_stage.proofs.RoomLemmas.{alone_fits, held_fits, held_moves, phase-told}
 use Rattle.machine_stage.proofs.stage.MachineStage.settle_machine.Goals as goal
 use Rattle.machine_stage.proofs.stage.MachineStage.settle_machine.Goals.{in-Built, in-Still}
 
 pub settle_to_rest-requires-clause-fits : goal.settle_to_rest-requires-clause-fits
 settle_to_rest-requires-clause-fits g c =
-    let same : Some (without_room c.in-Built.machine) ≡ c.args.self.now.machine =
-    sym (ap machine_held c.in-Built.is) ∙ ap (λ (stage : StageData). stage.machine) c.self.view_is in
-    fits_inside c.args.graph.now c.in-Built.machine (subst (FitsIn c.args.graph.now) (sym same) c.requires.fits)
+    held_fits c.args.graph.now c.in-Built.machine _ _ c.in-Built.is (ap (λ (stage : StageData). stage.machine) c.self.view_is) c.requires.fits
 
 pub returns-clause-moves : goal.returns-clause-moves
 returns-clause-moves g c =
     elim c.match-self.branch [
       | in-Built w ↦
           let settled = w.settle_to_rest in
-          rw (w.self-inside-is, w.result-is, ← c.self.view_is, w.in-Built.is) (record {
-            before = without_room w.in-Built.machine;
-            after = without_room settled.new.machine;
-            was = refl;
-            there = refl;
-            from = refl;
-            to = refl;
-            leads = phase-told c.args.graph.now c.args.limit w.in-Built.machine settled.new.machine settled.result.steps settled.result.joined
-                settled.ensures.takes;
-          })
+          rw (w.self-inside-is, w.result-is, ← c.self.view_is, w.in-Built.is)
+          (held_moves _ w.in-Built.machine settled.new.machine _ _
+          (phase-told c.args.graph.now c.args.limit w.in-Built.machine settled.new.machine settled.result.steps settled.result.joined settled.ensures.takes))
       | in-Still w ↦
-          let none : None ≡ Some c.requires.fits.machine =
-          sym (ap machine_held w.in-Still.is) ∙ ap (λ (stage : StageData). stage.machine) c.self.view_is ∙ c.requires.fits.there in
-          absurd (cc)
+          absurd (alone_fits c.args.graph.now _ _ (ap machine_held w.in-Still.is) (ap (λ (stage : StageData). stage.machine) c.self.view_is) c.requires.fits)
     ]

@@ -2,15 +2,15 @@
 use Rattle.std.proofs.Common.{◌≡◌, ◌+◌, ◌≤◌}
 use Rattle.beside_phases.specs.Counting.{PassesBeside}
 use Rattle.beside_phases.proofs.WorkLemmas.{work_left}
-use Rattle.beside_phases.proofs.counting.go_on.Given as goal
+use Rattle.beside_phases.proofs.counting.rest_or_go_on.Given as goal
 
 abbrev pub invariant-loop-count : goal.invariant-loop-count
 invariant-loop-count g l = record {
-  passes : PassesBeside g.O.Observer.see l.good_graph l.graph l.limit l.taken l.count l.fn.machine l.machine l.good l.apart.inside
+  passes : PassesBeside g.O.Observer.see l.good_graph l.graph l.limit l.moved l.count l.fn.machine l.machine l.good l.apart.inside
       (g.O.Observer.seen l.fn.onlooker) (g.O.Observer.seen l.onlooker);
-  low : l.taken ≤ l.count;
+  low : l.moved ≤ l.count;
   same : l.good ≡ l.fn.good;
-  bound : l.count + work_left l.limit l.count l.machine.state ≤ l.taken + work_left l.limit l.taken l.fn.machine.state;
+  bound : l.count + work_left l.limit l.count l.machine.state ≤ l.moved + work_left l.limit l.moved l.fn.machine.state;
   knows : g.O.Observer.knows l.onlooker l.machine.state;
 }
 

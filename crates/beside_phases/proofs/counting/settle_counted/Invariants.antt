@@ -2,7 +2,7 @@
 use Rattle.std.proofs.Common.{◌≡◌, ◌-◌, ◌≤◌}
 use Rattle.good_run.specs.Recording.{state_before}
 use Rattle.beside_phases.specs.Counting.{CountsBeside}
-use Rattle.beside_phases.proofs.counting.replay.Given as goal
+use Rattle.beside_phases.proofs.counting.settle_counted.Given as goal
 
 abbrev pub invariant-loop-at : goal.invariant-loop-at
 invariant-loop-at g l = record {
