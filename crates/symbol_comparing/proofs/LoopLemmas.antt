@@ -16,9 +16,9 @@ use Rattle.symbol_comparing.specs.Notes.{heads_of, names_of, shown_from}
 use Rattle.symbol_comparing.specs.Rails.{RailLists, drop_rails, letters_in, take_rails, AreRailsOf}
 use Rattle.symbol_comparing.specs.Told.{AreValuationsOf, Tells, TellsLines, TellsPart}
 use Rattle.symbol_comparing.specs.Words.{column_with, DifferFirst}
-use Rattle.symbol_comparing.proofs.StateLemmas.{columns_same, letters_drop, letters_later, letters_take}
+use Rattle.symbol_comparing.proofs.StateLemmas.{columns_same, letters_drop, letters_later, letters_take, rails_drop, rails_take}
 use Rattle.symbol_comparing.proofs.WordLemmas.{word_alike}
-use Rattle.symbol_comparing.proofs.CompareLemmas.{Worded, words_alike}
+use Rattle.symbol_comparing.proofs.CompareLemmas.{words_alike}
 
 -- ---- the maker as it is then
 
@@ -122,7 +122,7 @@ module _ (old now : Symbols) (shape : SameShape old.graph now.graph) (extends : 
 -- ---- what is cut off
 
 -- the words that are left are one, with what is cut off of the rails, and those behind it, with what is left of them
-pub words_split : (symbols : Symbols) (all rest : List Watched) (word : List ℕ) (nodes : ℕ) (left here later : RailLists) → all ≡ (word, nodes) ∷ rest →
+words_split : (symbols : Symbols) (all rest : List Watched) (word : List ℕ) (nodes : ℕ) (left here later : RailLists) → all ≡ (word, nodes) ∷ rest →
     here ≡ take_rails nodes left → later ≡ drop_rails nodes left → (column : ℕ) →
     by_words all (letters_in symbols left column) ≡ (word, letters_in symbols here column) ∷ by_words rest (letters_in symbols later column)
 words_split symbols all rest word nodes left here later is front back column =
@@ -131,8 +131,20 @@ words_split symbols all rest word nodes left here later is front back column =
     (sym (ap (λ (rails : RailLists). letters_in symbols rails column) front ∙ letters_take symbols left nodes column))
     (sym (ap (λ (rails : RailLists). letters_in symbols rails column) back ∙ letters_drop symbols left nodes column))
 
+-- and so it is with those of both circuits, whose words have the same names
+pub words_both : (symbols : Symbols) (all rest each more : List Watched) (word name : List ℕ) (nodes size : ℕ) (left here later right its after : RailLists) →
+    all ≡ (word, nodes) ∷ rest → here ≡ take_rails nodes left → later ≡ drop_rails nodes left → each ≡ (name, size) ∷ more →
+    its ≡ take_rails size right → after ≡ drop_rails size right → word ≡ name → (column : ℕ) →
+    (by_words all (letters_in symbols left column) ≡ (word, letters_in symbols here column) ∷ by_words rest (letters_in symbols later column)) ×
+    (by_words each (letters_in symbols right column) ≡ (word, letters_in symbols its column) ∷ by_words more (letters_in symbols after column))
+words_both symbols all rest each more word name nodes size left here later right its after is front back also ahead behind same column = (
+  words_split symbols all rest word nodes left here later is front back column,
+  words_split symbols each more name size right its after also ahead behind column
+      ∙ ap (λ (own : List ℕ). (own, letters_in symbols its column) ∷ by_words more (letters_in symbols after column)) (sym same),
+)
+
 -- and so it is with waveform lines
-pub waves_split : (symbols : Symbols) (words : List Watched) (all rest : List WaveNote) (wave : WaveNote) (left here later : RailLists) → all ≡ wave ∷ rest →
+waves_split : (symbols : Symbols) (words : List Watched) (all rest : List WaveNote) (wave : WaveNote) (left here later : RailLists) → all ≡ wave ∷ rest →
     here ≡ take_rails wave.nodes left → later ≡ drop_rails wave.nodes left → (column : ℕ) →
     shown_from words all (letters_in symbols left column)
     ≡ (wave.n, by_words (take wave.words words) (letters_in symbols here column)) ∷ shown_from words rest (letters_in symbols later column)
@@ -141,6 +153,30 @@ waves_split symbols words all rest wave left here later is front back column =
     ∙ ap₂ (λ (letters others : List Tern). (wave.n, by_words (take wave.words words) letters) ∷ shown_from words rest others)
     (sym (ap (λ (rails : RailLists). letters_in symbols rails column) front ∙ letters_take symbols left wave.nodes column))
     (sym (ap (λ (rails : RailLists). letters_in symbols rails column) back ∙ letters_drop symbols left wave.nodes column))
+
+-- and with those of both circuits: the line has the same number in both, and its words are so many of those that are watched
+pub waves_both : (symbols : Symbols) (words others first second : List Watched) (all rest each more : List WaveNote) (wave own : WaveNote)
+    (left here later right its after : RailLists) → all ≡ wave ∷ rest → here ≡ take_rails wave.nodes left → later ≡ drop_rails wave.nodes left →
+    each ≡ own ∷ more → its ≡ take_rails own.nodes right → after ≡ drop_rails own.nodes right → wave.n ≡ own.n → first ≡ take wave.words words →
+    second ≡ take own.words others → (column : ℕ) →
+    (shown_from words all (letters_in symbols left column)
+    ≡ (wave.n, by_words first (letters_in symbols here column)) ∷ shown_from words rest (letters_in symbols later column)) ×
+    (shown_from others each (letters_in symbols right column)
+    ≡ (wave.n, by_words second (letters_in symbols its column)) ∷ shown_from others more (letters_in symbols after column))
+waves_both symbols words others first second all rest each more wave own left here later right its after is front back also ahead behind number so too column = (
+  waves_split symbols words all rest wave left here later is front back column
+      ∙ ap (λ (list : List Watched). (wave.n, by_words list (letters_in symbols here column)) ∷ shown_from words rest (letters_in symbols later column)) (sym so),
+  waves_split symbols others each more own right its after also ahead behind column
+      ∙ ap₂ (λ (n : ℕ) (list : List Watched). (n, by_words list (letters_in symbols its column)) ∷ shown_from others more (letters_in symbols after column))
+      (sym number) (sym too),
+)
+
+-- what is cut off of rails are rails, and so is what is left
+pub rails_front : (symbols : Symbols) (left here : RailLists) (nodes : ℕ) → here ≡ take_rails nodes left → AreRailsOf symbols left → AreRailsOf symbols here
+rails_front symbols left here nodes is are = subst (AreRailsOf symbols) (sym is) (rails_take symbols left nodes are)
+
+pub rails_rest : (symbols : Symbols) (left later : RailLists) (nodes : ℕ) → later ≡ drop_rails nodes left → AreRailsOf symbols left → AreRailsOf symbols later
+rails_rest symbols left later nodes is are = subst (AreRailsOf symbols) (sym is) (rails_drop symbols left nodes are)
 
 -- words with the same names are as many, and so are waveform lines with the same heads
 pub as_many_words : (words others : List Watched) → names_of words ≡ names_of others → length words ≡ length others
@@ -166,8 +202,3 @@ pub names_first : (all rest others more : List Watched) (word name : List ℕ) (
 names_first all rest others more word name nodes its one other same =
     let cut : word ∷ names_of rest ≡ name ∷ names_of more = sym (ap names_of one) ∙ same ∙ ap names_of other in
     (cc cut, cc cut)
-
--- a word by another's name that is the same
-pub named_alike : (column : ℕ) (word name : List ℕ) (letters : ℕ → List Tern) (others rest : Worded) → word ≡ name →
-    others column ≡ (name, letters column) ∷ rest column → others column ≡ (word, letters column) ∷ rest column
-named_alike column word name letters others rest same is = is ∙ ap (λ (own : List ℕ). (own, letters column) ∷ rest column) (sym same)

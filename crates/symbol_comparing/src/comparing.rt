@@ -1,5 +1,5 @@
 //! The comparison of two runs, line by line and word by word.
-ghost use Rattle.std.specs.Prelude.{◌≡◌, ◌≢◌, ◌+◌, ◌<◌, ◌∷◌, [], drop, length, take, IfErr, IfOk};
+ghost use Rattle.std.specs.Prelude.{◌≡◌, ◌≢◌, ◌+◌, ◌<◌, ◌∷◌, [], drop, length, take, IfErr};
 ghost use Rattle.decision_graph.specs.Graphs.{SameShape};
 ghost use Rattle.decision_graph.specs.Vertices.{Extends};
 ghost use Rattle.symbol_meaning.specs.Comparing.{by_words, AreCompared, AreComparedWords, IsComparedWord};
@@ -7,7 +7,7 @@ ghost use Rattle.symbol_meaning.specs.Readings.{Valuations};
 ghost use Rattle.symbol_comparing.specs.Notes.{names_of, rails_in, shown_in, AreNoted};
 ghost use Rattle.symbol_comparing.specs.Rails.{letters_in, rails_seen, AreRailsOf};
 ghost use Rattle.symbol_comparing.specs.Told.{faults_compared, AreValuationsOf, Compares, RefusedCompared, StopsByFull, Tells};
-ghost use Rattle.symbol_comparing.specs.Words.{column_with, DifferFirst};
+ghost use Rattle.symbol_comparing.specs.Words.{DifferFirst};
 
 use crate::fault::{CompareFault, fault_of_graph};
 use crate::rails::{Rails, cut, letters};
@@ -15,11 +15,10 @@ use crate::words::first_difference;
 use crate::workspace::Workspace;
 use ports::Sink;
 use printed_lines::LineBuf;
-use run_ends::{End, Stop};
+use run_ends::End;
 use script_lang::Name;
 use std::alloc::Global;
 use symbol_told::{DifferenceShown, Notes, WaveNote};
-use ternary::Tern;
 use truth_makers::Symbols;
 
 /// Compares what two runs show that were noted over this maker, by the names of its variables, and writes what is told of them,
@@ -103,8 +102,8 @@ fn compare_waves<S: Sink + Drop>(
         let own = wave_at(second, k);
         let (left_here, left_rest) = cut(left, wave.nodes);
         let (right_here, right_rest) = cut(right, own.nodes);
-        let words = front(first.words(), wave.words);
-        let others = front(second.words(), own.words);
+        let words = front(first, wave.words);
+        let others = front(second, own.words);
         compare_words(
             alloc, symbols, variables, wave.n, words, others, left_here, right_here, workspace,
         )?;
@@ -136,9 +135,10 @@ fn rails_noted(notes: &Notes) -> Rails<'_>
 
 // The first words, so many or all that there are.
 #[tactic(auto, using(crate::proofs::StateLemmas::take_least))]
-fn front(words: &[(Name, usize)], count: usize) -> &[(Name, usize)]
-    ensures { result.now ≡ take count words.now }
+fn front(notes: &Notes, count: usize) -> &[(Name, usize)]
+    ensures { result.now ≡ take count notes.now.words }
 {
+    let words = notes.words();
     &words[..count.min(words.len())]
 }
 
@@ -249,8 +249,8 @@ fn tell_word<S: Sink + Drop>(
     ensures write { workspace.new.faults ≡ faults_compared workspace.old.faults result }
     ensures refused { RefusedCompared workspace.old.refusals workspace.new.refusals result }
 {
-    let first = letters_under(alloc, symbols, one, vars)?;
-    let second = letters_under(alloc, symbols, other, vars)?;
+    let first = letters(alloc, symbols, one, vars)?;
+    let second = letters(alloc, symbols, other, vars)?;
     let own = DifferenceShown {
         line,
         word,
@@ -259,22 +259,4 @@ fn tell_word<S: Sink + Drop>(
         truths: vars,
     };
     workspace.tell(variables, own)
-}
-
-// The states of nodes under a valuation.
-fn letters_under(
-    alloc: Global,
-    symbols: &Symbols,
-    rails: Rails<'_>,
-    vars: &[bool],
-) -> Result<Vec<Tern>, CompareFault>
-    requires rails { AreRailsOf symbols.now (rails_seen rails) }
-    requires count { length vars.now ≡ symbols.now.graph.variables }
-    ensures ok { IfOk result (λ states. states.items ≡ letters_in symbols.now (rails_seen rails.entry) (column_with symbols.now vars.now)) }
-    ensures memory { IfErr result (λ why. why ≡ CompareFault.Stopped Stop.Memory) }
-{
-    match letters(alloc, symbols, rails, vars) {
-        Ok(states) => Ok(states),
-        Err(_) => Err(CompareFault::Stopped(Stop::Memory)),
-    }
 }

@@ -4,6 +4,7 @@ ghost use Rattle.symbol_comparing.specs.Told as spec;
 
 use decision_graph::GraphFault;
 use run_ends::Stop;
+use std::alloc::AllocError;
 
 /// What ends a comparison before its answer is written.
 #[derive(Clone, Copy, Debug, PartialEq, Eq)]
@@ -21,5 +22,16 @@ pub fn fault_of_graph(fault: GraphFault) -> CompareFault
     match fault {
         GraphFault::Full => CompareFault::Full,
         GraphFault::NoMemory => CompareFault::Stopped(Stop::Memory),
+    }
+}
+
+impl From<AllocError> for CompareFault {
+    ghost use Rattle.run_ends.specs.declared.stop.Stop.TheVariants.{Memory};
+    ghost use Rattle.symbol_comparing.specs.declared.fault.CompareFault.TheVariants.{Stopped};
+
+    ghost from_gives = { λ _ own. own ≡ Stopped Memory };
+
+    fn from(_want: AllocError) -> CompareFault {
+        CompareFault::Stopped(Stop::Memory)
     }
 }

@@ -27,28 +27,9 @@ pub(crate) fn first_difference(
     ensures full { IfErr result (λ why. why ≡ fault.Full → symbols.new.graph.most ≤ length symbols.new.graph.vertices) }
     ensures found { IfOk result (IsFirstDifference symbols.old (rails_seen one.entry) (rails_seen other.entry)) }
 {
-    if one.highs.len() == other.highs.len() {
-        first_of_even(alloc, symbols, one, other)
-    } else {
-        first_of_uneven(alloc, symbols, one, other)
+    if one.highs.len() != other.highs.len() {
+        return first_of_uneven(alloc, symbols, one, other);
     }
-}
-
-// The same of as many nodes.
-fn first_of_even(
-    alloc: Global,
-    symbols: &mut Symbols,
-    one: Rails<'_>,
-    other: Rails<'_>,
-) -> Result<Option<Vec<bool>>, GraphFault>
-    requires one { AreRailsOf symbols.old (rails_seen one) }
-    requires other { AreRailsOf symbols.old (rails_seen other) }
-    requires even { length other.highs.now ≡ length one.highs.now }
-    ensures shape { SameShape symbols.old.graph symbols.new.graph }
-    ensures extends { Extends symbols.old.graph.vertices symbols.new.graph.vertices }
-    ensures full { IfErr result (λ why. why ≡ fault.Full → symbols.new.graph.most ≤ length symbols.new.graph.vertices) }
-    ensures found { IfOk result (IsFirstDifference symbols.old (rails_seen one.entry) (rails_seen other.entry)) }
-{
     let made = difference(&mut symbols.graph, one, other)?;
     match symbols.first(alloc, made) {
         Ok(found) => Ok(found),
@@ -56,7 +37,7 @@ fn first_of_even(
     }
 }
 
-// The same of other numbers of nodes.
+// The same if the numbers of nodes differ.
 fn first_of_uneven(
     alloc: Global,
     symbols: &Symbols,

@@ -161,7 +161,7 @@ notes_stand old new notes highs lows are high low = record {
 }
 
 -- the functions that stand for the rails of two notes, one list behind the other, put back into both
-pub both_stand : (old new : Symbols) (kept notes : NotesData) (all : List Function) → AreNotes old kept → AreNotes old notes →
+both_stand : (old new : Symbols) (kept notes : NotesData) (all : List Function) → AreNotes old kept → AreNotes old notes →
     StandFor old new (((kept.highs ++ kept.lows) ++ notes.highs) ++ notes.lows) all →
     StillShow old new kept (with_rails kept all) × StillShow old new notes (with_rails notes (rails_left kept all))
 both_stand old new kept notes all first second stand =
@@ -179,13 +179,28 @@ both_stand old new kept notes all first second stand =
           (sym (take_all (length notes.lows) (drop (length notes.highs) left) (omega (arith, last.counted)))) last),
     )
 
--- there are as many as are put back
-pub both_long : (old new : Symbols) (one two three four all : List Function) → StandFor old new (((one ++ two) ++ three) ++ four) all →
-    length all ≡ (length one + length two) + (length three + length four)
-both_long old new one two three four all stand =
-    let whole : length (((one ++ two) ++ three) ++ four) ≡ length ((one ++ two) ++ three) + length four = length-append ((one ++ two) ++ three) four in
-    let front : length ((one ++ two) ++ three) ≡ length (one ++ two) + length three = length-append (one ++ two) three in
-    let both : length (one ++ two) ≡ length one + length two = length-append one two in omega (arith, stand.counted, whole, front, both)
+-- the functions that stand for the rails of two notes
+module _ (old new : Symbols) (kept notes : NotesData) (rails moved all : List Function)
+    (whole : rails ≡ ((kept.highs ++ kept.lows) ++ notes.highs) ++ notes.lows) (moves : StandFor old new rails moved) (same : all ≡ moved) where
+  stand : StandFor old new (((kept.highs ++ kept.lows) ++ notes.highs) ++ notes.lows) all
+  stand = subst (StandFor old new (((kept.highs ++ kept.lows) ++ notes.highs) ++ notes.lows)) (sym same)
+      (subst (λ (own : List Function). StandFor old new own moved) whole moves)
+
+  -- are as many as are put back
+  pub both_long : (length kept.highs + length kept.lows) + (length notes.highs + length notes.lows) ≤ length all
+  both_long =
+      let one : List Function = kept.highs ++ kept.lows in
+      let all_long : length ((one ++ notes.highs) ++ notes.lows) ≡ length (one ++ notes.highs) + length notes.lows =
+      length-append (one ++ notes.highs) notes.lows in
+      let front : length (one ++ notes.highs) ≡ length one + length notes.highs = length-append one notes.highs in
+      let both : length one ≡ length kept.highs + length kept.lows = length-append kept.highs kept.lows in omega (arith, stand.counted, all_long, front, both)
+
+  -- and put back into both they show what these showed
+  pub both_back : (first second : NotesData) → AreNotes old kept → AreNotes old notes → first ≡ with_rails kept all →
+      second ≡ with_rails notes (rails_left kept all) → StillShow old new kept first × StillShow old new notes second
+  both_back first second one other is behind =
+      let both = both_stand old new kept notes all one other stand in
+      (subst (StillShow old new kept) (sym is) both.0, subst (StillShow old new notes) (sym behind) both.1)
 
 -- the functions of notes are the maker's, one list behind the other
 pub both_inside : (symbols : Symbols) (kept notes : NotesData) → AreNotes symbols kept → AreNotes symbols notes →

@@ -163,7 +163,3 @@ module _ (first : Symbols) (v : Valuations) (cut : Option ℕ) (start : ℕ → 
       -- one at which vertices ran out is one of the lines
       pub noting_among : (why : SymbolFault) → StopsAt line.0 why → StopsAmong all why
       noting_among why at = stops_among hear_nothing no_part true v cut start all tt asked sessions line rest tt known so.come why at
-
-      -- what was kept of an earlier run is so behind the line
-      pub noting_still : (new : Symbols) (others : NotesData) → StillShow now new later others → StillShow first new kept others
-      noting_still new others still = still_then first now new kept later others so.columns so.still still

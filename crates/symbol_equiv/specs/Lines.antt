@@ -1,21 +1,19 @@
 -- What one line comes to that is noted.
-use Rattle.std.specs.Prelude.{◌≡◌, ℕ, ◌<◌, Bool, List, ◌++◌, filter_map, Option, Result, Ok, Err}
+use Rattle.std.specs.Prelude.{◌≡◌, ℕ, ◌<◌, Bool, List, ◌++◌, filter_map, Option, Result}
 use Rattle.group_text.specs.Texts.{GroupTextData}
 use Rattle.truth_makers.specs.declared.symbols.Symbols.{Symbols}
-use Rattle.run_ends.specs.Causes.{plain_cause}
 use Rattle.session_meaning.specs.Sessions.{SessionData}
 use Rattle.script_meaning.specs.declared.turn.Turn.{Turn}
-use Rattle.script_meaning.specs.declared.turn.Turn.TheVariants.{Accepted, Refused, TooLarge}
 use Rattle.symbol_meaning.specs.Readings.{Valuations, reading_under}
 use Rattle.symbol_meaning.specs.Comparing.{shown_by, words_of_line}
-use Rattle.symbol_meaning.specs.Runs.{AreRefused, IsObeyedInAll}
+use Rattle.symbol_meaning.specs.Runs.{IsObeyedInAll}
 use Rattle.symbol_told.specs.Lines.{Telling}
 use Rattle.symbol_told.specs.Noting.{NotesData}
 use Rattle.symbol_told.specs.Printing.{lines_told}
 use Rattle.symbol_comparing.specs.Notes.{names_of, shown_in}
 use Rattle.symbol_run.specs.declared.session.SymbolFault.{SymbolFault}
-use Rattle.symbol_run.specs.Turns.{OutgrowsInAll, StaysUnheard}
 use Rattle.symbol_equiv.specs.Notes.{AreNotes}
+use Rattle.symbol_equiv.specs.Waves.{TakesTurnBy}
 use Rattle.symbol_equiv.specs.Words.{names_watched}
 
 -- the line is obeyed in each column, and its texts were analysed; notes show what they showed, and behind it the waveform lines of each column by the
@@ -32,13 +30,8 @@ pub record IsNoted (old_maker new_maker : Symbols) (quiet : Bool) (v : Valuation
   pub shown : (column : ℕ) → column < v.columns →
       shown_in new_maker after column ≡ shown_in old_maker before column ++ filter_map (shown_by before.words) (obeyed.lines column)
 
--- what one line comes to; at a fault nothing is said
+-- what one line comes to
 abbrev pub TakesTurnNoted : Symbols → Symbols → Bool → Valuations → Option ℕ → (ℕ → SessionData) → ℕ × List ℕ → (ℕ → SessionData) → NotesData → NotesData →
     List GroupTextData → List GroupTextData → Result Turn SymbolFault → Type 0
-TakesTurnNoted old_maker new_maker quiet v cut old line new before after asked known (Ok Accepted) =
-    IsNoted old_maker new_maker quiet v cut old line new before after asked known
-TakesTurnNoted old_maker new_maker quiet v cut old line new before after asked known (Ok (Refused code)) =
-    AreRefused quiet v cut old line (plain_cause code) × StaysUnheard v old new before after asked known
-TakesTurnNoted old_maker new_maker quiet v cut old line new before after asked known (Ok (TooLarge fault)) =
-    OutgrowsInAll quiet v cut old line fault × StaysUnheard v old new before after asked known
-TakesTurnNoted old_maker new_maker quiet v cut old line new before after asked known (Err fault) = Unit {0}
+TakesTurnNoted old_maker new_maker quiet v cut old line new before after asked known =
+    TakesTurnBy (IsNoted old_maker new_maker quiet v cut old line new before after asked known) quiet v cut old line new before after asked known

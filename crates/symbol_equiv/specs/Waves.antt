@@ -48,13 +48,19 @@ pub record ObeysRailed {H : Type 0} (symbols : Symbols) (hear : H → Telling �
   pub heard : after ≡ hear_all hear before told
   pub analysed : known ≡ asked ++ texts
 
--- what one line comes to; at a fault nothing is said
+-- what one line comes to: this, if it is accepted; or it is refused in each column, under a code or for the size of a group, and nothing was heard; at a
+-- fault nothing is said
+abbrev pub TakesTurnBy : {H : Type 0} → Type 0 → Bool → Valuations → Option ℕ → (ℕ → SessionData) → ℕ × List ℕ → (ℕ → SessionData) → H → H →
+    List GroupTextData → List GroupTextData → Result Turn SymbolFault → Type 0
+TakesTurnBy accepted quiet v cut old line new before after asked known (Ok Accepted) = accepted
+TakesTurnBy accepted quiet v cut old line new before after asked known (Ok (Refused code)) =
+    AreRefused quiet v cut old line (plain_cause code) × StaysUnheard v old new before after asked known
+TakesTurnBy accepted quiet v cut old line new before after asked known (Ok (TooLarge fault)) =
+    OutgrowsInAll quiet v cut old line fault × StaysUnheard v old new before after asked known
+TakesTurnBy accepted quiet v cut old line new before after asked known (Err fault) = Unit {0}
+
+-- what one comes to whose rails are told
 abbrev pub TakesTurnRailed : {H : Type 0} → Symbols → (H → Telling → H) → Bool → Valuations → Option ℕ → (ℕ → SessionData) → ℕ × List ℕ → (ℕ → SessionData) →
     H → H → List GroupTextData → List GroupTextData → Result Turn SymbolFault → Type 0
-TakesTurnRailed symbols hear quiet v cut old line new before after asked known (Ok Accepted) =
-    ObeysRailed symbols hear quiet v cut old line new before after asked known
-TakesTurnRailed symbols hear quiet v cut old line new before after asked known (Ok (Refused code)) =
-    AreRefused quiet v cut old line (plain_cause code) × StaysUnheard v old new before after asked known
-TakesTurnRailed symbols hear quiet v cut old line new before after asked known (Ok (TooLarge fault)) =
-    OutgrowsInAll quiet v cut old line fault × StaysUnheard v old new before after asked known
-TakesTurnRailed symbols hear quiet v cut old line new before after asked known (Err fault) = Unit {0}
+TakesTurnRailed symbols hear quiet v cut old line new before after asked known =
+    TakesTurnBy (ObeysRailed symbols hear quiet v cut old line new before after asked known) quiet v cut old line new before after asked known

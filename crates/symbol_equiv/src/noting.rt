@@ -24,7 +24,7 @@ use ternary::NoMemory;
 
 /// Obeys the lines of a quiet script, in order, that stand before the one that is refused by its names, if there is one, to the end
 /// or to the first that is refused otherwise, and answers which one that is. Notes are made of what waveform lines show; those of an
-/// earlier run over the same maker are kept.
+/// earlier run over the same maker are kept. Behind a line functions may be let go that nothing needs.
 pub(crate) fn note_lines<M: SharesMaker, A: Analyst>(
     alloc: Global,
     session: &mut M,
@@ -52,50 +52,13 @@ pub(crate) fn note_lines<M: SharesMaker, A: Analyst>(
         if is_past(line.number, stop) {
             return Ok(Halt::End);
         }
-        match note_next(alloc, session, cut, line, kept, notes, analyst)? {
-            Turn::Accepted => {}
+        match note_line(alloc, session, cut, line, notes, analyst)? {
+            Turn::Accepted => tidy(alloc, session, kept, notes),
             Turn::Refused(code) => return Ok(Halt::Refused(line.number, code)),
             Turn::TooLarge(fault) => return Ok(Halt::TooLarge(line.number, fault)),
         }
     }
     Ok(Halt::End)
-}
-
-// Obeys a line, and notes what it shows and what it watches. Behind it functions may be let go that nothing needs.
-fn note_next<M: SharesMaker, A: Analyst>(
-    alloc: Global,
-    session: &mut M,
-    cut: Option<u64>,
-    line: Line<'_>,
-    kept: &mut Notes,
-    notes: &mut Notes,
-    analyst: &mut A,
-) -> Result<Turn, SymbolFault>
-    requires quiet { M.quiet session.old ≡ true }
-    requires valued { AreValuationsOf (M.maker session.old) (M.valuations session.old) }
-    requires served { (rest : List (ℕ × List ℕ)) × M.serves session.old cut ((line.number, line.bytes.now) ∷ rest) }
-    requires kept { AreNotes (M.maker session.old) kept.old }
-    requires noted { AreNotes (M.maker session.old) notes.old }
-    ensures quiet { M.quiet session.new ≡ M.quiet session.old }
-    ensures valuations { M.valuations session.new ≡ M.valuations session.old }
-    ensures turn { (rest : List (ℕ × List ℕ)) → M.serves session.old cut ((line.entry.number, line.entry.bytes.now) ∷ rest) →
-        TakesTurnNoted (M.maker session.old) (M.maker session.new) true (M.valuations session.old) cut (M.sessions session.old)
-        (line.entry.number, line.entry.bytes.now) (M.sessions session.new) notes.old notes.new (A.analysed analyst.old) (A.analysed analyst.new) result }
-    ensures serves { (rest : List (ℕ × List ℕ)) → M.serves session.old cut ((line.entry.number, line.entry.bytes.now) ∷ rest) →
-        result ≡ Ok Turn.Accepted → M.serves session.new cut rest }
-    ensures valued { OnOk result (AreValuationsOf (M.maker session.new) (M.valuations session.old)) }
-    ensures still { OnOk result (StillShow (M.maker session.old) (M.maker session.new) kept.old kept.new) }
-    ensures number { IfErr result (StopsAt line.entry.number) }
-    ensures unwritten { IfErr result (λ fault. fault ≢ SymbolFault.Stopped Stop.Write) }
-{
-    match note_line(alloc, session, cut, line, notes, analyst)? {
-        Turn::Accepted => {
-            tidy(alloc, session, kept, notes);
-            Ok(Turn::Accepted)
-        }
-        Turn::Refused(code) => Ok(Turn::Refused(code)),
-        Turn::TooLarge(fault) => Ok(Turn::TooLarge(fault)),
-    }
 }
 
 // Obeys a line, and notes what it shows and what it watches.

@@ -33,6 +33,7 @@ pub(crate) enum Ran {
 
 /// Runs a script from the start, over this maker, and answers the notes of it; or writes the line of the refusal that ends it,
 /// behind the words that tell of the circuit. The notes of an earlier run over the maker are kept.
+#[tactic(auto, using(crate::proofs::FaultLemmas::run_counts, crate::proofs::FaultLemmas::run_refused, crate::proofs::FaultLemmas::leave_counts, crate::proofs::FaultLemmas::leave_refused, crate::proofs::FaultLemmas::leave_stopped))]
 pub(crate) fn run_noted<M: SharesMaker + Drop, T: SessionStart<M>, S: Sink, A: Analyst>(
     alloc: Global,
     symbols: Symbols,

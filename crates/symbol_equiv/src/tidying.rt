@@ -14,6 +14,7 @@ use ternary::NoMemory;
 use truth_makers::Symbols;
 
 /// Lets functions go that neither a session nor these notes need, if there are many. Out of memory all is as before.
+#[tactic(auto, using(crate::proofs::KeptLemmas::still_same))]
 pub(crate) fn tidy<M: SharesMaker>(
     alloc: Global,
     session: &mut M,
@@ -33,33 +34,11 @@ pub(crate) fn tidy<M: SharesMaker>(
     if !session.has_grown() {
         return;
     }
-    let _done = tidy_up(alloc, session, kept, notes);
-}
-
-// Does so, whether there are many or not. Out of memory all is as before.
-#[tactic(auto, using(crate::proofs::KeptLemmas::still_same))]
-fn tidy_up<M: SharesMaker>(
-    alloc: Global,
-    session: &mut M,
-    kept: &mut Notes,
-    notes: &mut Notes,
-) -> Result<(), NoMemory>
-    requires kept { AreNotes (M.maker session.old) kept.old }
-    requires noted { AreNotes (M.maker session.old) notes.old }
-    ensures quiet { M.quiet session.new ≡ M.quiet session.old }
-    ensures valuations { M.valuations session.new ≡ M.valuations session.old }
-    ensures sessions { (column : ℕ) → column < (M.valuations session.old).columns → M.sessions session.new column ≡ M.sessions session.old column }
-    ensures serves { (cut : Option ℕ) (lines : List (ℕ × List ℕ)) → M.serves session.old cut lines → M.serves session.new cut lines }
-    ensures columns { columns_in (M.maker session.new) ≡ columns_in (M.maker session.old) }
-    ensures kept { StillShow (M.maker session.old) (M.maker session.new) kept.old kept.new }
-    ensures noted { StillShow (M.maker session.old) (M.maker session.new) notes.old notes.new }
-{
-    let mut all = all_rails(alloc, kept, notes)?;
-    let first = rails_of(alloc, kept)?;
-    let second = rails_of(alloc, notes)?;
+    let Ok((mut all, first, second)) = all_rails(alloc, kept, notes) else {
+        return;
+    };
     session.tidy(&mut all);
     put_both(&all, first, second, kept, notes);
-    Ok(())
 }
 
 /// A maker with the functions of these notes, for who goes on when a session is done.
@@ -76,9 +55,7 @@ pub(crate) fn leave<M: SharesMaker>(
     ensures noted { IfOk result (λ symbols. StillShow (M.maker session.now) symbols notes.old notes.new) }
     ensures unwritten { IfErr result LeavesUnwritten }
 {
-    let mut all = all_rails(alloc, kept, notes)?;
-    let first = rails_of(alloc, kept)?;
-    let second = rails_of(alloc, notes)?;
+    let (mut all, first, second) = all_rails(alloc, kept, notes)?;
     let symbols = session.leave(&mut all)?;
     put_both(&all, first, second, kept, notes);
     Ok(symbols)
@@ -101,15 +78,25 @@ fn rails_of(alloc: Global, notes: &Notes) -> Result<Copies, NoMemory>
     Ok(Copies { highs, lows })
 }
 
-// The rails of both, one list behind the other.
-fn all_rails(alloc: Global, kept: &Notes, notes: &Notes) -> Result<Vec<Function>, NoMemory>
-    ensures { IfOk result (λ all. all.items ≡ ((kept.now.highs ++ kept.now.lows) ++ notes.now.highs) ++ notes.now.lows) }
+// The rails of both, one list behind the other, and those of each.
+fn all_rails(
+    alloc: Global,
+    kept: &Notes,
+    notes: &Notes,
+) -> Result<(Vec<Function>, Copies, Copies), NoMemory>
+    ensures all { IfOk result (λ own. own.0.items ≡ ((kept.now.highs ++ kept.now.lows) ++ notes.now.highs) ++ notes.now.lows) }
+    ensures first_highs { IfOk result (λ own. own.1.highs.items ≡ kept.now.highs) }
+    ensures first_lows { IfOk result (λ own. own.1.lows.items ≡ kept.now.lows) }
+    ensures second_highs { IfOk result (λ own. own.2.highs.items ≡ notes.now.highs) }
+    ensures second_lows { IfOk result (λ own. own.2.lows.items ≡ notes.now.lows) }
 {
     let mut all = Vec::from_slice(alloc, kept.highs())?;
     all.extend_from_slice(kept.lows())?;
     all.extend_from_slice(notes.highs())?;
     all.extend_from_slice(notes.lows())?;
-    Ok(all)
+    let first = rails_of(alloc, kept)?;
+    let second = rails_of(alloc, notes)?;
+    Ok((all, first, second))
 }
 
 // Lets both notes have these functions, in order, in the place of their rails.

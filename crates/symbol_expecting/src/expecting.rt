@@ -1,13 +1,13 @@
 //! `expect` of a symbolic script.
-ghost use Rattle.std.specs.Prelude.{◌≡◌, ◌+◌, ◌<◌, ◌∷◌, [], All, Err, drop, length, IfErr, IfOk};
+ghost use Rattle.std.specs.Prelude.{◌≡◌, ◌+◌, ◌<◌, ◌∷◌, [], All, Err, drop, length, IfErr};
 ghost use Rattle.symbol_expecting.specs.Words.{TableData, HeldSession, StageData, AreToldOf, IsToldOf, Valuations, data_of, AreGivenBy};
 ghost use Rattle.symbol_expecting.specs.Words.{IsTableOf, OnlyMakes, IsGiven};
 ghost use Rattle.symbol_expecting.specs.Expecting.{AreMeantBy, ExpectsInAll, Tells};
-ghost use Rattle.symbol_expecting.specs.Faults.{IsSilent, IsSpentBy, RefusedExpected, faults_expected};
-ghost use Rattle.symbol_expecting.specs.Missing.{AreWantedOf, IsFirstMissed};
+ghost use Rattle.symbol_expecting.specs.Faults.{IsSpentBy, RefusedExpected, faults_expected};
+ghost use Rattle.symbol_expecting.specs.Missing.{AreWantedOf};
 
 use crate::allowing::allow;
-use crate::fault::{ExpectFault, of_graph};
+use crate::fault::ExpectFault;
 use crate::search::first_in_session;
 use crate::telling::tell_unmet;
 use cosmos_session::Session;
@@ -101,7 +101,9 @@ fn expect_one<L: SymbolLines>(
     ensures faults { L.faults out.new ≡ faults_expected (L.faults out.old) result }
     ensures refusals { RefusedExpected (L.refusals out.old) (L.refusals out.new) result }
 {
-    let pairs = wanted_of(session, alloc, table, own)?;
+    // for the proof alone: a session's stage has the nodes of its circuit
+    session.stage();
+    let pairs = letters_of(session, alloc, table, own)?;
     expect_nodes(session, alloc, own, &pairs, n, out)
 }
 
@@ -124,49 +126,9 @@ fn expect_nodes<L: SymbolLines>(
     ensures faults { L.faults out.new ≡ faults_expected (L.faults out.old) result }
     ensures refusals { RefusedExpected (L.refusals out.old) (L.refusals out.new) result }
 {
-    let found = first_of(session, alloc, pairs)?;
+    let found = first_in_session(alloc, session, pairs)?;
     match found {
         Some(vars) => tell_unmet(session, alloc, own, pairs, &vars, n, out),
         None => Ok(false),
-    }
-}
-
-// The nodes of an assignment, each with the letter that is wanted of it.
-fn wanted_of(
-    session: &mut Session<SymbolStage>,
-    alloc: Global,
-    table: &NamedFunctions,
-    own: &Assignment,
-) -> Result<Vec<(usize, SymbolLetter)>, ExpectFault>
-    requires table { IsTableOf session.old.stage table.now }
-    requires given { IsGiven session.old.core.circuit session.old.core.vectors own.now }
-    ensures only { OnlyMakes session.old session.new }
-    ensures letters { IfOk result (λ pairs. AreGivenBy session.old table.now own.now session.new.stage pairs.items) }
-    ensures wanted { IfOk result (λ pairs. AreWantedOf session.new.stage pairs.items) }
-    ensures spent { IfErr result (IsSpentBy session.new.stage) }
-    ensures silent { IfErr result IsSilent }
-{
-    session.stage();
-    match letters_of(session, alloc, table, own) {
-        Ok(pairs) => Ok(pairs),
-        Err(fault) => Err(of_graph(fault)),
-    }
-}
-
-// The valuation of the first column in which these nodes aren't all as they are wanted; None exactly if they are in all columns.
-fn first_of(
-    session: &mut Session<SymbolStage>,
-    alloc: Global,
-    pairs: &[(usize, SymbolLetter)],
-) -> Result<Option<Vec<bool>>, ExpectFault>
-    requires { AreWantedOf session.old.stage pairs.now }
-    ensures only { OnlyMakes session.old session.new }
-    ensures first { IfOk result (IsFirstMissed session.new.stage pairs.now) }
-    ensures spent { IfErr result (IsSpentBy session.new.stage) }
-    ensures silent { IfErr result IsSilent }
-{
-    match first_in_session(alloc, session, pairs) {
-        Ok(found) => Ok(found),
-        Err(fault) => Err(of_graph(fault)),
     }
 }

@@ -1,6 +1,5 @@
 //! What ends an `expect` before all of it was told.
 ghost use Rattle.std.specs.Prelude.{◌≡◌};
-ghost use Rattle.symbol_expecting.specs.Faults as spec;
 
 use decision_graph::GraphFault;
 use ports::PortFault;
@@ -30,12 +29,15 @@ impl From<AllocError> for ExpectFault {
     }
 }
 
-// What ends it if a function can't be made.
-pub(crate) fn of_graph(fault: GraphFault) -> ExpectFault
-    ensures { result ≡ spec.of_graph fault }
-{
-    match fault {
-        GraphFault::Full => ExpectFault::Full,
-        GraphFault::NoMemory => ExpectFault::NoMemory,
+impl From<GraphFault> for ExpectFault {
+    ghost use Rattle.symbol_expecting.specs.Faults.{of_graph};
+
+    ghost from_gives = { λ fault own. own ≡ of_graph fault };
+
+    fn from(fault: GraphFault) -> ExpectFault {
+        match fault {
+            GraphFault::Full => ExpectFault::Full,
+            GraphFault::NoMemory => ExpectFault::NoMemory,
+        }
     }
 }

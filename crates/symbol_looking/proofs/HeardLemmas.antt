@@ -24,7 +24,7 @@ use Rattle.symbol_looking.specs.Tellings.{HearsSome, RefusedTelling, TellsInAll,
 
 module _ {H A : Type 0} (hear : H → A → H) (part : H → A → H → Type 0) where
   -- some lines were heard, and then others, or a part of them
-  pub heard_then : {E : Type 0} (before mid after : H) (front rest : List A) (result : Result (Unit {0}) E) → mid ≡ hear_all hear before front →
+  heard_then : {E : Type 0} (before mid after : H) (front rest : List A) (result : Result (Unit {0}) E) → mid ≡ hear_all hear before front →
       Hears hear part mid after rest result → Hears hear part before after (front ++ rest) result
   heard_then before mid after front rest (Ok _) heard sent =
       sent ∙ ap (λ h. hear_all hear h rest) heard ∙ sym (hear_all-append hear before front rest)
@@ -33,7 +33,7 @@ module _ {H A : Type 0} (hear : H → A → H) (part : H → A → H → Type 0)
       (record { done = front; split = refl; heard = heard }) sent
 
   -- of some lines a part was heard, so of these and others
-  pub heard_part : (before after : H) (front rest : List A) → HearsPart hear part before after front → HearsPart hear part before after (front ++ rest)
+  heard_part : (before after : H) (front rest : List A) → HearsPart hear part before after front → HearsPart hear part before after (front ++ rest)
   heard_part before after front rest stopped =
       so_far-stopped hear part before before after (front ++ rest) (front ++ rest) front rest refl (so_far-start hear before (front ++ rest)) stopped
 
@@ -51,6 +51,21 @@ module _ {H A : Type 0} (hear : H → A → H) (part : H → A → H → Type 0)
       OnErr result (part before line after) → HearsSome hear part before after (line ∷ []) result
   line_heard before after line (Ok _) ok err = ok
   line_heard before after line (Err fault) ok err = inr (record { front = []; next = line; rest = []; split = refl; heard = err })
+
+-- ---- lines that are told without rails
+
+module _ {H : Type 0} (hear : H → Telling → H) (part : H → Telling → H → Type 0) where
+  -- some were heard, and then others, or a part of them
+  pub told_then : {E : Type 0} (before mid after : H) (front rest : List SymbolTold) (result : Result (Unit {0}) E) → mid ≡ hear_all hear before (tellings front) →
+      Hears hear part mid after (tellings rest) result → Hears hear part before after (tellings (front ++ rest)) result
+  told_then before mid after front rest result heard sent =
+      rw (map-append telling front rest) (heard_then hear part before mid after (tellings front) (tellings rest) result heard sent)
+
+  -- of some a part was heard, so of these and others
+  pub told_part : (before after : H) (front rest : List SymbolTold) → HearsPart hear part before after (tellings front) →
+      HearsPart hear part before after (tellings (front ++ rest))
+  told_part before after front rest stopped =
+      rw (map-append telling front rest) (heard_part hear part before after (tellings front) (tellings rest) stopped)
 
 -- ---- what ends a command
 

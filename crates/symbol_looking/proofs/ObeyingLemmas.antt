@@ -14,7 +14,7 @@ use Rattle.session_meaning.specs.declared.fault.Refusal.{Refusal}
 use Rattle.session_meaning.specs.Sessions.{HeldSession, SessionData}
 use Rattle.session_meaning.specs.Refusals.{refusal_of, refusal_of_tell}
 use Rattle.session_meaning.specs.Columns.{column_of}
-use Rattle.session_meaning.specs.Effects.{told_by}
+use Rattle.session_meaning.specs.Effects.{told_by, with_told}
 use Rattle.session_meaning.specs.Outcomes.{Performs}
 use Rattle.session_meaning.proofs.LineLemmas.{shown_told}
 use Rattle.session_meaning.proofs.LookLemmas.{looked_told}
@@ -42,23 +42,23 @@ lines_of_tellings (line ∷ lines) = ap (λ (others : List SymbolTold). line ∷
 
 -- ---- a column
 
--- names are shown, and the data stay as they are
-pub shows : (session : SessionData) (names : List (List ℕ)) → refusal_of session (family.Tell (Show names)) ≡ None →
-    Performs session (family.Tell (Show names)) session (told_by session (Show names)) []
-shows session names allowed = record {
+-- what is told is told, and the data stay as they are
+tells : (session : SessionData) (tell : Tell) → refusal_of session (family.Tell tell) ≡ None → session ≡ with_told session (told_by session tell) →
+    Performs session (family.Tell tell) session (told_by session tell) []
+tells session tell allowed same = record {
   mid = session;
   prepares = (refl, refl);
-  does = record { allowed = allowed; effect = (shown_told session names, refl) };
+  does = record { allowed = allowed; effect = (same, refl) };
 }
 
--- and so they do if nodes are looked at
+-- so it is if names are shown, and if nodes are looked at
+pub shows : (session : SessionData) (names : List (List ℕ)) → refusal_of session (family.Tell (Show names)) ≡ None →
+    Performs session (family.Tell (Show names)) session (told_by session (Show names)) []
+shows session names allowed = tells session (Show names) allowed (shown_told session names)
+
 pub looks : (session : SessionData) (names : List (List ℕ)) → refusal_of session (family.Tell (Look names)) ≡ None →
     Performs session (family.Tell (Look names)) session (told_by session (Look names)) []
-looks session names allowed = record {
-  mid = session;
-  prepares = (refl, refl);
-  does = record { allowed = allowed; effect = (looked_told session names, refl) };
-}
+looks session names allowed = tells session (Look names) allowed (looked_told session names)
 
 -- ---- all columns
 

@@ -1,5 +1,5 @@
 //! Nodes that are looked at.
-ghost use Rattle.std.specs.Prelude.{◌≡◌, ◌<◌, ◌≤◌, ◌++◌, [], None, flat_map, is_some, length, option_map, true, All};
+ghost use Rattle.std.specs.Prelude.{◌≡◌, ◌<◌, ◌≤◌, [], None, flat_map, is_some, length, option_map, true, All};
 ghost use Rattle.std.specs.List.{cons_option};
 ghost use Rattle.symbol_looking.specs.Words.{faults_after, RefusedOnce, node_of, Hears, column_of, told_by, faults_applied};
 ghost use Rattle.symbol_looking.specs.Words.{AreMerged, told_seen, columns_on, states_in};
@@ -24,6 +24,7 @@ use symbol_told::{SymbolLines, ToldLine};
 /// switches do in all of them.
 ///
 /// It changes nothing, and takes no memory of its own.
+#[tactic(auto, using(crate::proofs::HeardLemmas::refused_told))]
 pub fn look<L: SymbolLines>(
     session: &Session<SymbolStage>,
     names: &[Name],
@@ -83,8 +84,8 @@ fn look_names<L: SymbolLines>(
     Ok(())
 }
 
-// Tells the lines of a node. It reads the circuit twice, once for the transistors with an end at the node and once for those
-// that it is the gate of.
+// Tells the lines of a node: its own, those of the transistors with an end at it, and those of the ones that it is the gate of.
+// It reads the circuit twice, once for each of the two.
 fn tell_node<L: SymbolLines>(
     circuit: &Circuit,
     stage: &SymbolStage,
@@ -98,22 +99,6 @@ fn tell_node<L: SymbolLines>(
     ensures refusals { RefusedOnce (L.refusals out.old) (L.refusals out.new) result }
 {
     tell_line(node_line(circuit, stage, node), out)?;
-    tell_switches(circuit, stage, node, out)
-}
-
-// Tells the lines of the transistors at a node: of those with an end at it, and then of those that it is the gate of.
-fn tell_switches<L: SymbolLines>(
-    circuit: &Circuit,
-    stage: &SymbolStage,
-    node: usize,
-    out: &mut L,
-) -> Result<(), PortFault>
-    requires states { nodes circuit.now.graph ≤ nodes_on stage.now }
-    ensures heard { Hears L.hear L.part (L.heard out.old) (L.heard out.new)
-        (tellings (all_told_at Terminal.End circuit.now (letter_on stage.now) node ++ all_told_at Terminal.Gate circuit.now (letter_on stage.now) node)) result }
-    ensures faults { L.faults out.new ≡ faults_after (L.faults out.old) result }
-    ensures refusals { RefusedOnce (L.refusals out.old) (L.refusals out.new) result }
-{
     tell_at(circuit, stage, Terminal::End, node, out)?;
     tell_at(circuit, stage, Terminal::Gate, node, out)
 }

@@ -24,6 +24,7 @@ use symbol_told::{SymbolLines, ToldLine};
 /// `show`: tells the line of each of these names, with the letter that each of its nodes has in all columns.
 ///
 /// It changes nothing. Memory is taken line by line; if it lacks, a front of the lines was heard.
+#[tactic(auto, using(crate::proofs::HeardLemmas::refused_told))]
 pub fn show<L: SymbolLines>(
     alloc: Global,
     session: &Session<SymbolStage>,
@@ -85,26 +86,7 @@ fn show_all<L: SymbolLines>(
     ensures refusals { RefusedOnce (L.refusals out.old) (L.refusals out.new) result }
 {
     let (circuit, vectors) = (session.circuit(), session.vectors());
-    show_names(alloc, circuit, vectors, session.stage(), names, out)
-}
-
-// Tells the line of each of these names, by a circuit and its vectors.
-fn show_names<L: SymbolLines>(
-    alloc: Global,
-    circuit: &Circuit,
-    vectors: &Vectors,
-    stage: &SymbolStage,
-    names: &[Name],
-    out: &mut L,
-) -> Result<(), PortFault>
-    requires states { nodes circuit.now.graph ≤ nodes_on stage.now }
-    requires netlist { IsCircuit circuit.now }
-    requires vectors { AreWithin (nodes circuit.now.graph) vectors.now }
-    ensures heard { HearsSome L.hear L.part (L.heard out.old) (L.heard out.new)
-        (tellings (map (shown_of circuit.now vectors.now (letter_on stage.now)) names.now)) result }
-    ensures faults { L.faults out.new ≡ faults_after (L.faults out.old) result }
-    ensures refusals { RefusedOnce (L.refusals out.old) (L.refusals out.new) result }
-{
+    let stage = session.stage();
     for name in names {
         show_name(alloc, circuit, vectors, stage, name.items(), out)?;
     }
@@ -136,6 +118,7 @@ fn show_name<L: SymbolLines>(
 }
 
 // Tells the line of a name with these nodes.
+#[tactic(auto, using(crate::proofs::HeardLemmas::lacks_faults, crate::proofs::HeardLemmas::lacks_once, crate::proofs::HeardLemmas::none_heard))]
 fn show_nodes<L: SymbolLines>(
     alloc: Global,
     stage: &SymbolStage,

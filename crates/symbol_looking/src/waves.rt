@@ -40,6 +40,7 @@ pub fn tell_wave<L: SymbolLines>(
 }
 
 // Tells the waveform line of these nodes.
+#[tactic(auto, using(crate::proofs::HeardLemmas::lacks_faults, crate::proofs::HeardLemmas::lacks_once, crate::proofs::HeardLemmas::none_heard))]
 fn tell_nodes<L: SymbolLines>(
     alloc: Global,
     stage: &SymbolStage,

@@ -6,8 +6,9 @@ ghost use Rattle.symbol_told.specs.Words.{letter, faults_after, RefusedOnce, Wri
 ghost use Rattle.symbol_told.specs.Differences.{counted_text, difference_seen};
 
 use crate::putting::{put, put_number, put_states};
+use crate::sending::{Text, send_text};
 use crate::valuations::put_where;
-use ports::{PortFault, Sink, send};
+use ports::{PortFault, Sink};
 use printed_lines::LineBuf;
 use script_lang::Name;
 use ternary::{NoMemory, Tern};
@@ -24,7 +25,6 @@ pub struct DifferenceShown<'a> {
 }
 
 /// Sends the line of a difference, by the names of the variables, by way of a buffer without bytes.
-#[tactic(auto, using(crate::proofs::PrintingLemmas::refused_once, crate::proofs::PrintingLemmas::unsent_once, ports::proofs::SendingLemmas::part_none))]
 pub fn send_difference<S: Sink>(
     buffer: &mut LineBuf,
     variables: &[Name],
@@ -38,21 +38,10 @@ pub fn send_difference<S: Sink>(
     ensures faults { S.faults sink.new ≡ faults_after (S.faults sink.old) result }
     ensures refusals { RefusedOnce (S.refusals sink.old) (S.refusals sink.new) result }
 {
-    match put_difference(buffer, variables, own) {
-        Ok(()) => {
-            let sent = send(sink, buffer.bytes());
-            buffer.clear();
-            sent
-        }
-        Err(NoMemory) => {
-            buffer.clear();
-            Err(PortFault::NoMemory)
-        }
-    }
+    send_text(buffer, variables, Text::Difference(own), sink)
 }
 
 /// Sends the last line, by the numbers of waveform lines and of differences, by way of a buffer without bytes.
-#[tactic(auto, using(crate::proofs::PrintingLemmas::refused_once, crate::proofs::PrintingLemmas::unsent_once, ports::proofs::SendingLemmas::part_none))]
 pub fn send_count<S: Sink>(
     buffer: &mut LineBuf,
     waves: u64,
@@ -66,21 +55,11 @@ pub fn send_count<S: Sink>(
     ensures faults { S.faults sink.new ≡ faults_after (S.faults sink.old) result }
     ensures refusals { RefusedOnce (S.refusals sink.old) (S.refusals sink.new) result }
 {
-    match put_count(buffer, waves, differences) {
-        Ok(()) => {
-            let sent = send(sink, buffer.bytes());
-            buffer.clear();
-            sent
-        }
-        Err(NoMemory) => {
-            buffer.clear();
-            Err(PortFault::NoMemory)
-        }
-    }
+    send_text(buffer, &[], Text::Count(waves, differences), sink)
 }
 
-// Puts the line of a difference.
-fn put_difference(
+/// Puts the line of a difference.
+pub(crate) fn put_difference(
     out: &mut LineBuf,
     variables: &[Name],
     own: DifferenceShown,
@@ -120,8 +99,8 @@ fn put_letters_of(
     put_states(out, other)
 }
 
-// Puts the last line.
-fn put_count(out: &mut LineBuf, waves: u64, differences: u64) -> Result<(), NoMemory>
+/// Puts the last line.
+pub(crate) fn put_count(out: &mut LineBuf, waves: u64, differences: u64) -> Result<(), NoMemory>
     ensures { OnOk result (out.new.bytes ≡ out.old.bytes ++ counted_text waves differences) }
 {
     if differences == 0 {

@@ -28,6 +28,7 @@ mod lines;
 mod notes;
 mod printer;
 mod putting;
+mod sending;
 mod valuations;
 
 pub use differences::{DifferenceShown, send_count, send_difference};

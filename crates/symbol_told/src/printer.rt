@@ -1,19 +1,15 @@
 //! A hearer that writes lines to a sink.
-ghost use Rattle.std.specs.Prelude.{◌≡◌, [], false, OnErr, OnOk};
-ghost use Rattle.std.specs.Io.KnownBytes.{append_known};
-ghost use Rattle.ports.specs.Ports.{faults_after, RefusedOnce};
-ghost use Rattle.ports.specs.Sending.{WritesPart};
+ghost use Rattle.std.specs.Prelude.{◌≡◌, [], false};
 ghost use Rattle.symbol_meaning.specs.Told as spec;
 ghost use Rattle.symbol_told.specs.Lines.{told_seen};
 
 use crate::lines::{SymbolLines, ToldLine};
-use crate::putting::put_told;
+use crate::sending::{Text, send_text};
 use decision_graph::Function;
-use ports::{NotedFile, PortFault, Sink, send};
+use ports::{NotedFile, PortFault, Sink};
 use printed_lines::LineBuf;
 use script_lang::{Name, NameList};
 use std::marker::Model;
-use ternary::NoMemory;
 
 /// A printer: it writes each line to its sink, by the names of the variables, and remembers whether an expectation isn't met.
 ///
@@ -93,7 +89,12 @@ impl<S: Sink + Drop> SymbolLines for SymbolPrinter<S> {
         _lows: &[Function],
     ) -> Result<(), PortFault> {
         self.missed |= is_unmet(line);
-        send_told(&mut self.line, self.variables.items(), line, &mut self.sink)
+        send_text(
+            &mut self.line,
+            self.variables.items(),
+            Text::Told(line),
+            &mut self.sink,
+        )
     }
 
     fn note(&mut self, file: NotedFile, text: &[u8]) {
@@ -122,32 +123,4 @@ fn is_unmet(line: ToldLine) -> bool
     ensures { result ≡ spec.is_unmet (told_seen line.entry) }
 {
     matches!(line, ToldLine::Unmet { .. })
-}
-
-// Puts the text of a line into a buffer without bytes, sends it, and takes it out again.
-#[tactic(auto, using(crate::proofs::PrintingLemmas::refused_once, crate::proofs::PrintingLemmas::unsent_once, ports::proofs::SendingLemmas::part_none))]
-fn send_told<S: Sink>(
-    buffer: &mut LineBuf,
-    variables: &[Name],
-    line: ToldLine,
-    sink: &mut S,
-) -> Result<(), PortFault>
-    requires { buffer.old.bytes ≡ [] }
-    ensures empty { buffer.new.bytes ≡ [] }
-    ensures ok { OnOk result (S.written sink.new ≡ append_known (S.written sink.old) (spec.told_text variables.now (told_seen line.entry))) }
-    ensures part { OnErr result (WritesPart (S.written sink.old) (S.written sink.new) (spec.told_text variables.now (told_seen line.entry))) }
-    ensures faults { S.faults sink.new ≡ faults_after (S.faults sink.old) result }
-    ensures refusals { RefusedOnce (S.refusals sink.old) (S.refusals sink.new) result }
-{
-    match put_told(buffer, variables, line) {
-        Ok(()) => {
-            let sent = send(sink, buffer.bytes());
-            buffer.clear();
-            sent
-        }
-        Err(NoMemory) => {
-            buffer.clear();
-            Err(PortFault::NoMemory)
-        }
-    }
 }

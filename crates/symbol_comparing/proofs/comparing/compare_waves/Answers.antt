@@ -1,17 +1,17 @@
 -- One waveform line more; at a fault at it something is told of the lines that are left.
-use Rattle.std.proofs.Common.{◌≡◌, suc, ◌+◌, ℕ, List, ◌∷◌, drop, length, take, refl, sym, ap, subst, ◌∙◌, arith}
+use Rattle.std.proofs.Common.{◌≡◌, suc, ◌+◌, ℕ, List, drop, length, refl, sym, ap, subst, ◌∙◌, arith}
 use Rattle.std.proofs.lemmas.List.{at_drop_all, length-drop}
 use Rattle.std.proofs.lemmas.Result.{err_from_is_err_and}
 use Rattle.decision_graph.proofs.VertexLemmas.{Extends-same, Extends-trans}
-use Rattle.symbol_meaning.specs.Comparing.{Watched, AreCompared, by_words}
+use Rattle.symbol_meaning.specs.Comparing.{AreCompared}
 use Rattle.symbol_told.specs.declared.notes.WaveNote.{WaveNote}
 use Rattle.symbol_told.specs.Noting.{NotesData}
 use Rattle.symbol_comparing.specs.Notes.{rails_in, shown_from, shown_in}
 use Rattle.symbol_comparing.specs.Rails.{RailLists, letters_in, rails_seen, AreRailsOf}
 use Rattle.symbol_comparing.specs.Told.{TellsPart}
-use Rattle.symbol_comparing.proofs.StateLemmas.{rails_drop, rails_later, rails_take}
+use Rattle.symbol_comparing.proofs.StateLemmas.{rails_later}
 use Rattle.symbol_comparing.proofs.CompareLemmas.{WavesCome, fronts_named, waves_come, waves_come_end, waves_come_on, waves_come_stop, waves_told}
-use Rattle.symbol_comparing.proofs.LoopLemmas.{as_many_waves, heads_first, line_lines, line_part, valuations_later, waves_split}
+use Rattle.symbol_comparing.proofs.LoopLemmas.{as_many_waves, heads_first, line_lines, line_part, rails_front, rails_rest, valuations_later, waves_both}
 use Rattle.symbol_comparing.proofs.comparing.compare_waves.Goals as goal
 
 pub loop-k-init : goal.loop-k-init
@@ -46,15 +46,13 @@ compare_words-requires g c =
     let now = c.loop-k.symbols in
     let inv = c.loop-k.invariant in
     let heads = heads_first _ _ _ _ _ _ c.wave_at-wave.ensures c.wave_at-own.ensures inv.heads in
-    let words_are = c.front-words.ensures ∙ ap (λ (words : List Watched). take c.wave_at-wave.result.words words) c.words.ensures in
-    let others_are = c.front-others.ensures ∙ ap (λ (words : List Watched). take c.wave_at-own.result.words words) c.words-in-loop-k.ensures in
-    let here = subst (AreRailsOf old) (sym c.cut.ensures.front) (rails_take old (rails_seen c.loop-k.left) c.wave_at-wave.result.nodes inv.first) in
-    let its = subst (AreRailsOf old) (sym c.cut-in-loop-k.ensures.front) (rails_take old (rails_seen c.loop-k.right) c.wave_at-own.result.nodes inv.second) in
     record {
-      words = rw (words_are, others_are)
+      words = rw (c.front-words.ensures, c.front-others.ensures)
           (fronts_named c.args.first.now.words c.args.second.now.words c.requires.noted.alike.words c.wave_at-wave.result.words c.wave_at-own.result.words heads.1);
-      one = rails_later old now inv.shape inv.extends (rails_seen c.cut.result.0) here;
-      other = rails_later old now inv.shape inv.extends (rails_seen c.cut-in-loop-k.result.0) its;
+      one = rails_later old now inv.shape inv.extends (rails_seen c.cut.result.0)
+          (rails_front old _ _ c.wave_at-wave.result.nodes c.cut.ensures.front inv.first);
+      other = rails_later old now inv.shape inv.extends (rails_seen c.cut-in-loop-k.result.0)
+          (rails_front old _ _ c.wave_at-own.result.nodes c.cut-in-loop-k.ensures.front inv.second);
     }
 
 pub loop-k-preserved : goal.loop-k-preserved
@@ -64,34 +62,22 @@ loop-k-preserved g c =
     let now = c.loop-k.symbols in
     let inv = c.loop-k.invariant in
     let heads = heads_first _ _ _ _ _ _ c.wave_at-wave.ensures c.wave_at-own.ensures inv.heads in
-    let words_are = c.front-words.ensures ∙ ap (λ (words : List Watched). take c.wave_at-wave.result.words words) c.words.ensures in
-    let others_are = c.front-others.ensures ∙ ap (λ (words : List Watched). take c.wave_at-own.result.words words) c.words-in-loop-k.ensures in
-    let here = subst (AreRailsOf old) (sym c.cut.ensures.front) (rails_take old (rails_seen c.loop-k.left) c.wave_at-wave.result.nodes inv.first) in
-    let its = subst (AreRailsOf old) (sym c.cut-in-loop-k.ensures.front) (rails_take old (rails_seen c.loop-k.right) c.wave_at-own.result.nodes inv.second) in
     record {
       shape = record {
         variables = c.compare_words.ensures.shape.variables ∙ inv.shape.variables;
         most = c.compare_words.ensures.shape.most ∙ inv.shape.most;
       };
       extends = Extends-trans old.graph.vertices now.graph.vertices new.graph.vertices inv.extends c.compare_words.ensures.extends;
-      first = subst (AreRailsOf old) (sym c.cut.ensures.rest) (rails_drop old (rails_seen c.loop-k.left) c.wave_at-wave.result.nodes inv.first);
-      second = subst (AreRailsOf old) (sym c.cut-in-loop-k.ensures.rest) (rails_drop old (rails_seen c.loop-k.right) c.wave_at-own.result.nodes inv.second);
+      first = rails_rest old _ _ c.wave_at-wave.result.nodes c.cut.ensures.rest inv.first;
+      second = rails_rest old _ _ c.wave_at-own.result.nodes c.cut-in-loop-k.ensures.rest inv.second;
       heads = heads.2;
       come = λ v are. waves_come_on v c.args.variables.now _ _ _ _ _ _ _ _ _ c.loop-k.k _ _ _ _ _ _ (inv.come v are)
-          (λ column inside. (
-            waves_split old _ _ _ _ _ _ _ c.wave_at-wave.ensures c.cut.ensures.front c.cut.ensures.rest column
-                ∙ ap (λ words. (c.wave_at-wave.result.n, by_words words (letters_in old (rails_seen c.cut.result.0) column))
-                ∷ shown_from c.args.first.now.words (drop (c.loop-k.k + 1) c.args.first.now.waves) (letters_in old (rails_seen c.cut.result.1) column))
-                (sym words_are),
-            waves_split old _ _ _ _ _ _ _ c.wave_at-own.ensures c.cut-in-loop-k.ensures.front c.cut-in-loop-k.ensures.rest column
-                ∙ ap (λ n. (n, by_words (take c.wave_at-own.result.words c.args.second.now.words) (letters_in old (rails_seen c.cut-in-loop-k.result.0) column))
-                ∷ shown_from c.args.second.now.words (drop (c.loop-k.k + 1) c.args.second.now.waves) (letters_in old (rails_seen c.cut-in-loop-k.result.1) column))
-                (sym heads.0)
-                ∙ ap (λ words. (c.wave_at-wave.result.n, by_words words (letters_in old (rails_seen c.cut-in-loop-k.result.0) column))
-                ∷ shown_from c.args.second.now.words (drop (c.loop-k.k + 1) c.args.second.now.waves) (letters_in old (rails_seen c.cut-in-loop-k.result.1) column))
-                (sym others_are),
-          ))
-          (line_lines old now inv.shape inv.extends v c.wave_at-wave.result.n c.front-words.result.now c.front-others.result.now _ _ c.args.variables.now _ _ _ _ here its
+          (λ column inside. waves_both old c.args.first.now.words c.args.second.now.words _ _ _ _ _ _ c.wave_at-wave.result c.wave_at-own.result _ _ _ _ _ _
+          c.wave_at-wave.ensures c.cut.ensures.front c.cut.ensures.rest c.wave_at-own.ensures c.cut-in-loop-k.ensures.front c.cut-in-loop-k.ensures.rest
+          heads.0 c.front-words.ensures c.front-others.ensures column)
+          (line_lines old now inv.shape inv.extends v c.wave_at-wave.result.n c.front-words.result.now c.front-others.result.now _ _ c.args.variables.now _ _ _ _
+          (rails_front old _ _ c.wave_at-wave.result.nodes c.cut.ensures.front inv.first)
+          (rails_front old _ _ c.wave_at-own.result.nodes c.cut-in-loop-k.ensures.front inv.second)
           (c.in_ok-compare_words.ensures.told v (valuations_later old now inv.shape inv.extends v are)));
       faults = c.in_ok-compare_words.ensures.write ∙ inv.faults;
       refusals = c.in_ok-compare_words.ensures.refused ∙ inv.refusals;
@@ -104,10 +90,6 @@ returns-in_err-compare_words-clause-told g c = λ v are.
     let now = c.loop-k.symbols in
     let inv = c.loop-k.invariant in
     let heads = heads_first _ _ _ _ _ _ c.wave_at-wave.ensures c.wave_at-own.ensures inv.heads in
-    let words_are = c.front-words.ensures ∙ ap (λ (words : List Watched). take c.wave_at-wave.result.words words) c.words.ensures in
-    let others_are = c.front-others.ensures ∙ ap (λ (words : List Watched). take c.wave_at-own.result.words words) c.words-in-loop-k.ensures in
-    let here = subst (AreRailsOf old) (sym c.cut.ensures.front) (rails_take old (rails_seen c.loop-k.left) c.wave_at-wave.result.nodes inv.first) in
-    let its = subst (AreRailsOf old) (sym c.cut-in-loop-k.ensures.front) (rails_take old (rails_seen c.loop-k.right) c.wave_at-own.result.nodes inv.second) in
     let more = length (drop (c.loop-k.k + 1) c.args.first.now.waves) in
     let counted = ap (λ (waves : List WaveNote). length waves) c.waves-k-end.ensures in
     let all : c.loop-k.k + suc more ≡ length c.args.first.now.waves =
@@ -116,21 +98,13 @@ returns-in_err-compare_words-clause-told g c = λ v are.
     (subst (λ (waves : ℕ). TellsPart (AreCompared v (shown_in old c.args.first.now) (shown_in old c.args.second.now) waves) c.args.variables.now
     c.args.workspace.now.written c.compare_words.new.workspace.written) all
     (waves_come_stop v c.args.variables.now _ _ _ _ _ _ _ _ _ c.loop-k.k _ _ c.compare_words.new.workspace.count _ _ _ (inv.come v are)
-    (λ column inside. (
-      waves_split old _ _ _ _ _ _ _ c.wave_at-wave.ensures c.cut.ensures.front c.cut.ensures.rest column
-          ∙ ap (λ words. (c.wave_at-wave.result.n, by_words words (letters_in old (rails_seen c.cut.result.0) column))
-          ∷ shown_from c.args.first.now.words (drop (c.loop-k.k + 1) c.args.first.now.waves) (letters_in old (rails_seen c.cut.result.1) column))
-          (sym words_are),
-      waves_split old _ _ _ _ _ _ _ c.wave_at-own.ensures c.cut-in-loop-k.ensures.front c.cut-in-loop-k.ensures.rest column
-          ∙ ap (λ n. (n, by_words (take c.wave_at-own.result.words c.args.second.now.words) (letters_in old (rails_seen c.cut-in-loop-k.result.0) column))
-          ∷ shown_from c.args.second.now.words (drop (c.loop-k.k + 1) c.args.second.now.waves) (letters_in old (rails_seen c.cut-in-loop-k.result.1) column))
-          (sym heads.0)
-          ∙ ap (λ words. (c.wave_at-wave.result.n, by_words words (letters_in old (rails_seen c.cut-in-loop-k.result.0) column))
-          ∷ shown_from c.args.second.now.words (drop (c.loop-k.k + 1) c.args.second.now.waves) (letters_in old (rails_seen c.cut-in-loop-k.result.1) column))
-          (sym others_are),
-    ))
+    (λ column inside. waves_both old c.args.first.now.words c.args.second.now.words _ _ _ _ _ _ c.wave_at-wave.result c.wave_at-own.result _ _ _ _ _ _
+    c.wave_at-wave.ensures c.cut.ensures.front c.cut.ensures.rest c.wave_at-own.ensures c.cut-in-loop-k.ensures.front c.cut-in-loop-k.ensures.rest
+    heads.0 c.front-words.ensures c.front-others.ensures column)
     more
-    (line_part old now inv.shape inv.extends v c.wave_at-wave.result.n c.front-words.result.now c.front-others.result.now _ _ c.args.variables.now _ _ here its
+    (line_part old now inv.shape inv.extends v c.wave_at-wave.result.n c.front-words.result.now c.front-others.result.now _ _ c.args.variables.now _ _
+    (rails_front old _ _ c.wave_at-wave.result.nodes c.cut.ensures.front inv.first)
+    (rails_front old _ _ c.wave_at-own.result.nodes c.cut-in-loop-k.ensures.front inv.second)
     (c.in_err-compare_words.ensures.told v (valuations_later old now inv.shape inv.extends v are)))
     (waves_told v c.args.first.now.words c.args.second.now.words c.requires.noted.alike.words (drop (c.loop-k.k + 1) c.args.first.now.waves)
     (drop (c.loop-k.k + 1) c.args.second.now.waves) (letters_in old (rails_seen c.cut.result.1)) (letters_in old (rails_seen c.cut-in-loop-k.result.1))

@@ -1,13 +1,13 @@
 -- One word more; at a fault at it something is told of the words that are left.
-use Rattle.std.proofs.Common.{◌+◌, ℕ, List, ◌∷◌, drop, refl, sym, ap, subst, ◌∙◌, arith}
+use Rattle.std.proofs.Common.{◌+◌, List, drop, refl, ◌∙◌, arith}
 use Rattle.std.proofs.lemmas.List.{at_drop_all}
 use Rattle.std.proofs.lemmas.Result.{err_from_is_err_and}
 use Rattle.decision_graph.proofs.VertexLemmas.{Extends-same, Extends-trans}
 use Rattle.symbol_meaning.specs.Comparing.{Watched, by_words}
-use Rattle.symbol_comparing.specs.Rails.{letters_in, rails_seen, AreRailsOf}
-use Rattle.symbol_comparing.proofs.StateLemmas.{rails_drop, rails_later, rails_take}
+use Rattle.symbol_comparing.specs.Rails.{letters_in, rails_seen}
+use Rattle.symbol_comparing.proofs.StateLemmas.{rails_later}
 use Rattle.symbol_comparing.proofs.CompareLemmas.{words_come, words_come_end, words_come_on, words_come_stop, words_told}
-use Rattle.symbol_comparing.proofs.LoopLemmas.{as_many_words, names_first, valuations_later, word_lines, word_part, words_split}
+use Rattle.symbol_comparing.proofs.LoopLemmas.{as_many_words, names_first, rails_front, rails_rest, valuations_later, word_lines, word_part, words_both}
 use Rattle.symbol_comparing.proofs.comparing.compare_words.Goals as goal
 
 pub loop-j-init : goal.loop-j-init
@@ -28,10 +28,10 @@ compare_word-requires g c =
     let now = c.loop-j.symbols in
     let inv = c.loop-j.invariant in
     record {
-      one = rails_later old now inv.shape inv.extends (rails_seen c.cut.result.0) (subst (AreRailsOf old) (sym c.cut.ensures.front)
-          (rails_take old (rails_seen c.loop-j.left) c.word_at-first.result.1 inv.first));
-      other = rails_later old now inv.shape inv.extends (rails_seen c.cut-in-loop-j.result.0) (subst (AreRailsOf old) (sym c.cut-in-loop-j.ensures.front)
-          (rails_take old (rails_seen c.loop-j.right) c.word_at-second.result.1 inv.second));
+      one = rails_later old now inv.shape inv.extends (rails_seen c.cut.result.0)
+          (rails_front old _ _ c.word_at-first.result.1 c.cut.ensures.front inv.first);
+      other = rails_later old now inv.shape inv.extends (rails_seen c.cut-in-loop-j.result.0)
+          (rails_front old _ _ c.word_at-second.result.1 c.cut-in-loop-j.ensures.front inv.second);
     }
 
 pub loop-j-preserved : goal.loop-j-preserved
@@ -41,25 +41,21 @@ loop-j-preserved g c =
     let new = c.compare_word.new.symbols in
     let inv = c.loop-j.invariant in
     let names = names_first _ _ _ _ _ _ _ _ c.word_at-first.ensures c.word_at-second.ensures inv.names in
-    let here = subst (AreRailsOf old) (sym c.cut.ensures.front) (rails_take old (rails_seen c.loop-j.left) c.word_at-first.result.1 inv.first) in
-    let its = subst (AreRailsOf old) (sym c.cut-in-loop-j.ensures.front) (rails_take old (rails_seen c.loop-j.right) c.word_at-second.result.1 inv.second) in
     record {
       shape = record {
         variables = c.compare_word.ensures.shape.variables ∙ inv.shape.variables;
         most = c.compare_word.ensures.shape.most ∙ inv.shape.most;
       };
       extends = Extends-trans old.graph.vertices now.graph.vertices new.graph.vertices inv.extends c.compare_word.ensures.extends;
-      first = subst (AreRailsOf old) (sym c.cut.ensures.rest) (rails_drop old (rails_seen c.loop-j.left) c.word_at-first.result.1 inv.first);
-      second = subst (AreRailsOf old) (sym c.cut-in-loop-j.ensures.rest) (rails_drop old (rails_seen c.loop-j.right) c.word_at-second.result.1 inv.second);
+      first = rails_rest old _ _ c.word_at-first.result.1 c.cut.ensures.rest inv.first;
+      second = rails_rest old _ _ c.word_at-second.result.1 c.cut-in-loop-j.ensures.rest inv.second;
       names = names.1;
       come = λ v are. words_come_on v c.args.line c.args.variables.now _ _ _ _ _ _ _ _ _ _ _ _ _ _ _ (inv.come v are)
-          (λ column inside. (
-            words_split old _ _ _ _ _ _ _ c.word_at-first.ensures c.cut.ensures.front c.cut.ensures.rest column,
-            words_split old _ _ _ _ _ _ _ c.word_at-second.ensures c.cut-in-loop-j.ensures.front c.cut-in-loop-j.ensures.rest column
-                ∙ ap (λ (word : List ℕ). (word, letters_in old (rails_seen c.cut-in-loop-j.result.0) column)
-                ∷ by_words (drop (c.loop-j.j + 1) c.args.others.now) (letters_in old (rails_seen c.cut-in-loop-j.result.1) column)) (sym names.0),
-          ))
-          (word_lines old now inv.shape inv.extends v c.args.line _ _ _ c.args.variables.now _ _ _ _ here its
+          (λ column inside. words_both old _ _ _ _ _ _ _ _ _ _ _ _ _ _ c.word_at-first.ensures c.cut.ensures.front c.cut.ensures.rest c.word_at-second.ensures
+          c.cut-in-loop-j.ensures.front c.cut-in-loop-j.ensures.rest names.0 column)
+          (word_lines old now inv.shape inv.extends v c.args.line _ _ _ c.args.variables.now _ _ _ _
+          (rails_front old _ _ c.word_at-first.result.1 c.cut.ensures.front inv.first)
+          (rails_front old _ _ c.word_at-second.result.1 c.cut-in-loop-j.ensures.front inv.second)
           (c.in_ok-compare_word.ensures.told v (valuations_later old now inv.shape inv.extends v are)));
       faults = c.in_ok-compare_word.ensures.write ∙ inv.faults;
       refusals = c.in_ok-compare_word.ensures.refused ∙ inv.refusals;
@@ -72,17 +68,13 @@ returns-in_err-compare_word-clause-told g c = λ v are.
     let now = c.loop-j.symbols in
     let inv = c.loop-j.invariant in
     let names = names_first _ _ _ _ _ _ _ _ c.word_at-first.ensures c.word_at-second.ensures inv.names in
-    let here = subst (AreRailsOf old) (sym c.cut.ensures.front) (rails_take old (rails_seen c.loop-j.left) c.word_at-first.result.1 inv.first) in
-    let its = subst (AreRailsOf old) (sym c.cut-in-loop-j.ensures.front) (rails_take old (rails_seen c.loop-j.right) c.word_at-second.result.1 inv.second) in
     rw stopped.1
     (words_come_stop v c.args.line c.args.variables.now _ _ _ _ _ _ _ _ _ _ _ c.compare_word.new.workspace.count _ _ _ (inv.come v are)
-    (λ column inside. (
-      words_split old _ _ _ _ _ _ _ c.word_at-first.ensures c.cut.ensures.front c.cut.ensures.rest column,
-      words_split old _ _ _ _ _ _ _ c.word_at-second.ensures c.cut-in-loop-j.ensures.front c.cut-in-loop-j.ensures.rest column
-          ∙ ap (λ (word : List ℕ). (word, letters_in old (rails_seen c.cut-in-loop-j.result.0) column)
-          ∷ by_words (drop (c.loop-j.j + 1) c.args.others.now) (letters_in old (rails_seen c.cut-in-loop-j.result.1) column)) (sym names.0),
-    ))
-    (word_part old now inv.shape inv.extends v c.args.line _ _ _ c.args.variables.now _ _ here its
+    (λ column inside. words_both old _ _ _ _ _ _ _ _ _ _ _ _ _ _ c.word_at-first.ensures c.cut.ensures.front c.cut.ensures.rest c.word_at-second.ensures
+    c.cut-in-loop-j.ensures.front c.cut-in-loop-j.ensures.rest names.0 column)
+    (word_part old now inv.shape inv.extends v c.args.line _ _ _ c.args.variables.now _ _
+    (rails_front old _ _ c.word_at-first.result.1 c.cut.ensures.front inv.first)
+    (rails_front old _ _ c.word_at-second.result.1 c.cut-in-loop-j.ensures.front inv.second)
     (c.in_err-compare_word.ensures.told v (valuations_later old now inv.shape inv.extends v are)))
     (words_told v c.args.line (drop (c.loop-j.j + 1) c.args.words.now) (drop (c.loop-j.j + 1) c.args.others.now)
     (letters_in old (rails_seen c.cut.result.1)) (letters_in old (rails_seen c.cut-in-loop-j.result.1)) names.1))

@@ -23,6 +23,6 @@ pub returns-clause-told : goal.returns-clause-told
 returns-clause-told g c = λ v are.
     one_told _ c.args.variables.now (difference_of c.args.line c.args.word.now c.deref.result.now c.deref-2.result.now c.args.vars.now) c.args.workspace.now.written c.tell.new.self.written c.args.workspace.now.count c.tell.new.self.count c.tell.result
     (told_of_found c.args.symbols.now v c.args.line c.args.word.now (rails_seen c.args.one) (rails_seen c.args.other) c.args.vars.now _ are c.requires.differ
-    (ap₂ (λ (letters others : List Tern). difference_of c.args.line c.args.word.now letters others c.args.vars.now) (c.deref.ensures.value ∙ c.in_ok-first.ensures.ok)
-    (c.deref-2.ensures.value ∙ c.in_ok-second.ensures.ok)))
+    (ap₂ (λ (letters others : List Tern). difference_of c.args.line c.args.word.now letters others c.args.vars.now) (c.deref.ensures.value ∙ c.in_ok-first.ensures)
+    (c.deref-2.ensures.value ∙ c.in_ok-second.ensures)))
     c.tell.ensures.ok c.tell.ensures.part c.tell.ensures.count

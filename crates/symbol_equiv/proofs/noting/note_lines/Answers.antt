@@ -1,5 +1,5 @@
 -- Each line is noted, or ends the run.
-use Rattle.std.proofs.Common.{◌≡◌, ◌∙◌, ℕ, true, List, ◌∷◌, Result, Ok, ap, sym, subst, refl}
+use Rattle.std.proofs.Common.{◌≡◌, ◌∙◌, ℕ, ◌<◌, true, List, ◌∷◌, Ok, ap, sym, subst, refl}
 use Rattle.std.specs.List.{enumerate_from}
 use Rattle.line_words.specs.Files as file
 use Rattle.line_words.specs.Lines.{lines_of}
@@ -10,12 +10,14 @@ use Rattle.symbol_meaning.specs.Scripts.{before_stop}
 use Rattle.truth_parts.proofs.KeptLemmas.{passed_on}
 use Rattle.symbol_reading.proofs.ReadingLemmas.{rises-enumerated, Rises}
 use Rattle.symbol_comparing.specs.Told.{AreValuationsOf}
-use Rattle.symbol_run.specs.declared.session.SymbolFault.{SymbolFault}
 use Rattle.symbol_run.proofs.RunLemmas.{Numbered, here_left, none_first, past_all, rises_on}
 use Rattle.symbol_equiv.specs.Lines.{TakesTurnNoted}
-use Rattle.symbol_equiv.proofs.RunLemmas.{Noting, noting_among, noting_end, noting_large, noting_on, noting_refused, noting_start, noting_still, noting_to}
+use Rattle.symbol_equiv.specs.Notes.{StillShow}
+use Rattle.symbol_equiv.proofs.KeptLemmas.{notes_kept, still_then, valued_later}
+use Rattle.symbol_equiv.proofs.LineLemmas.{tidied_line}
+use Rattle.symbol_equiv.proofs.RunLemmas.{Noting, noting_among, noting_end, noting_large, noting_on, noting_refused, noting_start, noting_to}
 use Rattle.symbol_equiv.proofs.noting.note_lines.Given.{Over}
-use Rattle.symbol_equiv.proofs.noting.note_lines.Goals.{After-note_next}
+use Rattle.symbol_equiv.proofs.noting.note_lines.Goals.{After-note_line, In_ok-note_line}
 use Rattle.symbol_equiv.proofs.noting.note_lines.Goals as goal
 
 pub loop-line-init : goal.loop-line-init
@@ -37,63 +39,105 @@ loop-line-init g c =
       valuations = refl;
     }
 
-pub note_next-requires-clause-quiet : goal.note_next-requires-clause-quiet
-note_next-requires-clause-quiet g c = c.loop-line.invariant.quiet
+pub note_line-requires-clause-quiet : goal.note_line-requires-clause-quiet
+note_line-requires-clause-quiet g c = c.loop-line.invariant.quiet
 
-pub note_next-requires-clause-valued : goal.note_next-requires-clause-valued
-note_next-requires-clause-valued g c =
+pub note_line-requires-clause-valued : goal.note_line-requires-clause-valued
+note_line-requires-clause-valued g c =
     subst (AreValuationsOf (g.M.SharesMaker.maker c.loop-line.session)) (sym c.loop-line.invariant.valuations) c.loop-line.invariant.noting.valued
 
-pub note_next-requires-clause-kept : goal.note_next-requires-clause-kept
-note_next-requires-clause-kept g c = c.loop-line.invariant.noting.still.whole
-
-pub note_next-requires-clause-noted : goal.note_next-requires-clause-noted
-note_next-requires-clause-noted g c = c.loop-line.invariant.noting.whole
+pub note_line-requires-clause-noted : goal.note_line-requires-clause-noted
+note_line-requires-clause-noted g c = c.loop-line.invariant.noting.whole
 
 -- ---- once a line was noted
 
 -- the line, and the lines behind it
-abbrev left : (g : Over) → After-note_next g → Numbered
+abbrev left : (g : Over) → After-note_line g → Numbered
 left g c = (c.in-Some.line.number, c.in-Some.line.bytes.now) ∷ before_stop c.args.stop c.next.new.self
 
-left_is : (g : Over) (c : After-note_next g) → before_stop c.args.stop c.loop-line.line-iterator ≡ left g c
+left_is : (g : Over) (c : After-note_line g) → before_stop c.args.stop c.loop-line.line-iterator ≡ left g c
 left_is g c = here_left c.args.stop _ _ _ c.is_past.result c.in-Some.ensures.steps c.is_past.ensures c.if-is_past.false
 
 -- what was noted before it
-so : (g : Over) (c : After-note_next g) →
-    Noting (g.M.SharesMaker.maker c.args.session.now) (g.M.SharesMaker.maker c.loop-line.session) (g.M.LineSession.valuations c.args.session.now) c.cut_line-cut.result (g.M.LineSession.sessions c.args.session.now)
-    (before_stop c.args.stop (file.lines_in c.args.text.now)) (g.M.LineSession.sessions c.loop-line.session) (left g c) c.args.kept.now c.loop-line.kept c.loop-line.notes
+so : (g : Over) (c : After-note_line g) →
+    Noting (g.M.SharesMaker.maker c.args.session.now) (g.M.SharesMaker.maker c.loop-line.session) (g.M.LineSession.valuations c.args.session.now)
+    c.cut_line-cut.result (g.M.LineSession.sessions c.args.session.now) (before_stop c.args.stop (file.lines_in c.args.text.now))
+    (g.M.LineSession.sessions c.loop-line.session) (left g c) c.args.kept.now c.loop-line.kept c.loop-line.notes
     (g.A.Analyst.analysed c.args.analyst.now) (g.A.Analyst.analysed c.loop-line.analyst)
-so g c = noting_to _ _ _ (g.M.LineSession.sessions c.args.session.now) _ _ _ _ (g.M.LineSession.sessions c.loop-line.session) _ _ _ _ _ (left_is g c) c.loop-line.invariant.noting
+so g c =
+    noting_to _ _ _ (g.M.LineSession.sessions c.args.session.now) _ _ _ _ (g.M.LineSession.sessions c.loop-line.session) _ _ _ _ _ (left_is g c)
+    c.loop-line.invariant.noting
 
 -- its turn, by valuations
-abbrev Takes : (g : Over) → After-note_next g → Valuations → Result Turn SymbolFault → Type 0
-Takes g c v ended =
-    TakesTurnNoted (g.M.SharesMaker.maker c.loop-line.session) (g.M.SharesMaker.maker c.note_next.new.session) true v c.cut_line-cut.result (g.M.LineSession.sessions c.loop-line.session)
-    (c.in-Some.line.number, c.in-Some.line.bytes.now) (g.M.LineSession.sessions c.note_next.new.session) c.loop-line.notes c.note_next.new.notes
-    (g.A.Analyst.analysed c.loop-line.analyst) (g.A.Analyst.analysed c.note_next.new.analyst) ended
+abbrev Takes : (g : Over) → After-note_line g → Valuations → Turn → Type 0
+Takes g c v taken =
+    TakesTurnNoted (g.M.SharesMaker.maker c.loop-line.session) (g.M.SharesMaker.maker c.note_line.new.session) true v c.cut_line-cut.result
+    (g.M.LineSession.sessions c.loop-line.session) (c.in-Some.line.number, c.in-Some.line.bytes.now) (g.M.LineSession.sessions c.note_line.new.session)
+    c.loop-line.notes c.note_line.new.notes (g.A.Analyst.analysed c.loop-line.analyst) (g.A.Analyst.analysed c.note_line.new.analyst) (Ok taken)
 
 -- a line that is left is served
-serves : (g : Over) (c : After-note_next g) → g.M.LineSession.serves c.loop-line.session c.cut_line-cut.result (left g c)
+serves : (g : Over) (c : After-note_line g) → g.M.LineSession.serves c.loop-line.session c.cut_line-cut.result (left g c)
 serves g c = subst (g.M.LineSession.serves c.loop-line.session c.cut_line-cut.result) (left_is g c) c.loop-line.invariant.serves
 
 -- the turn by the valuations as they were at first
-turn : (g : Over) (c : After-note_next g) (ended : Result Turn SymbolFault) → Takes g c (g.M.LineSession.valuations c.loop-line.session) ended → Takes g c (g.M.LineSession.valuations c.args.session.now) ended
-turn g c ended is = subst (λ (v : Valuations). Takes g c v ended) c.loop-line.invariant.valuations is
+turn : (g : Over) (c : After-note_line g) (found taken : Turn) → found ≡ taken → Takes g c (g.M.LineSession.valuations c.loop-line.session) found →
+    Takes g c (g.M.LineSession.valuations c.args.session.now) taken
+turn g c found taken same is =
+    subst (λ (v : Valuations). Takes g c v taken) c.loop-line.invariant.valuations (subst (Takes g c (g.M.LineSession.valuations c.loop-line.session)) same is)
+
+-- behind it the valuations are those of the maker, and what was kept shows what it showed
+valued : (g : Over) (c : In_ok-note_line g) → AreValuationsOf (g.M.SharesMaker.maker c.note_line.new.session) (g.M.LineSession.valuations c.args.session.now)
+valued g c =
+    valued_later (g.M.SharesMaker.maker c.loop-line.session) (g.M.SharesMaker.maker c.note_line.new.session)
+    (g.M.LineSession.valuations c.args.session.now) c.in_ok-note_line.ensures.keeps.count c.loop-line.invariant.noting.valued
+
+kept : (g : Over) (c : In_ok-note_line g) →
+    StillShow (g.M.SharesMaker.maker c.loop-line.session) (g.M.SharesMaker.maker c.note_line.new.session) c.loop-line.kept c.loop-line.kept
+kept g c =
+    notes_kept (g.M.SharesMaker.maker c.loop-line.session) (g.M.SharesMaker.maker c.note_line.new.session) c.in_ok-note_line.ensures.keeps
+    c.loop-line.kept c.loop-line.invariant.noting.still.whole
+
+still : (g : Over) (c : In_ok-note_line g) →
+    StillShow (g.M.SharesMaker.maker c.args.session.now) (g.M.SharesMaker.maker c.note_line.new.session) c.args.kept.now c.loop-line.kept
+still g c =
+    still_then (g.M.SharesMaker.maker c.args.session.now) (g.M.SharesMaker.maker c.loop-line.session) (g.M.SharesMaker.maker c.note_line.new.session)
+    c.args.kept.now c.loop-line.kept c.loop-line.kept c.loop-line.invariant.noting.columns c.loop-line.invariant.noting.still (kept g c)
+
+pub tidy-requires-clause-kept : goal.tidy-requires-clause-kept
+tidy-requires-clause-kept g c = (kept g (goal.at.tidy-requires-clause-kept g c).In_ok-note_line).whole
+
+pub tidy-requires-clause-noted : goal.tidy-requires-clause-noted
+tidy-requires-clause-noted g c =
+    let at = (goal.at.tidy-requires-clause-noted g c).After-note_line in
+    (turn g at _ Accepted c.in-Accepted.is (c.in_ok-note_line.ensures.turn _ (serves g at))).whole
 
 pub loop-line-preserved : goal.loop-line-preserved
 loop-line-preserved g c =
-    let at = (goal.at.loop-line-preserved g c).After-note_next in
+    let at = (goal.at.loop-line-preserved g c).After-note_line in
+    let ok = (goal.at.loop-line-preserved g c).In_ok-note_line in
     let inv = c.loop-line.invariant in
-    let takes = turn g at (Ok Accepted) (subst (λ (taken : Turn). Takes g at (g.M.LineSession.valuations c.loop-line.session) (Ok taken)) c.in-Accepted.is (c.in_ok-note_next.ensures.turn _ (serves g at))) in
+    let v = g.M.LineSession.valuations c.args.session.now in
+    let now = g.M.SharesMaker.maker c.loop-line.session in
+    let mid = g.M.SharesMaker.maker c.note_line.new.session in
+    let new = g.M.SharesMaker.maker c.tidy.new.session in
+    let count = c.in_ok-note_line.ensures.keeps.count in
+    let same = sym inv.noting.valued.columns in
+    let takes = tidied_line v c.cut_line-cut.result (g.M.LineSession.sessions c.loop-line.session) (c.in-Some.line.number, c.in-Some.line.bytes.now) now same
+    c.loop-line.notes (g.A.Analyst.analysed c.loop-line.analyst) (g.A.Analyst.analysed c.note_line.new.analyst) mid new
+    (g.M.LineSession.sessions c.note_line.new.session) (g.M.LineSession.sessions c.tidy.new.session) c.note_line.new.notes c.tidy.new.notes (count ∙ same)
+    (λ column inside. c.tidy.ensures.sessions column
+    (subst (λ (own : Valuations). column < own.columns) (sym (c.note_line.ensures.valuations ∙ inv.valuations)) inside)) c.tidy.ensures.noted
+    (turn g at _ Accepted c.in-Accepted.is (c.in_ok-note_line.ensures.turn _ (serves g at))) in
     record {
       rises = rises_on (c.in-Some.line.number, c.in-Some.line.bytes.now) c.next.new.self (subst (Rises 0) c.in-Some.ensures.steps inv.rises);
-      noting = noting_on _ _ _ (g.M.LineSession.sessions c.args.session.now) _ _ _ _ (g.M.LineSession.sessions c.loop-line.session) _ _ _ _ _ (so g at) (g.M.SharesMaker.maker c.note_next.new.session) (g.M.LineSession.sessions c.note_next.new.session) c.note_next.new.kept
-          c.note_next.new.notes (g.A.Analyst.analysed c.note_next.new.analyst) takes
-          (subst (AreValuationsOf (g.M.SharesMaker.maker c.note_next.new.session)) inv.valuations c.in_ok-note_next.ensures.valued) c.in_ok-note_next.ensures.still;
-      serves = c.note_next.ensures.serves _ (serves g at) (c.in_ok-note_next.was ∙ ap (λ (taken : Turn). Ok taken) c.in-Accepted.is);
-      quiet = c.note_next.ensures.quiet ∙ inv.quiet;
-      valuations = c.note_next.ensures.valuations ∙ inv.valuations;
+      noting = noting_on _ _ _ (g.M.LineSession.sessions c.args.session.now) _ _ _ _ (g.M.LineSession.sessions c.loop-line.session) _ _ _ _ _ (so g at) new
+          (g.M.LineSession.sessions c.tidy.new.session) c.tidy.new.kept c.tidy.new.notes (g.A.Analyst.analysed c.note_line.new.analyst) takes
+          (valued_later mid new v c.tidy.ensures.columns (valued g ok))
+          (still_then now mid new c.loop-line.kept c.loop-line.kept c.tidy.new.kept count (kept g ok) c.tidy.ensures.kept);
+      serves = c.tidy.ensures.serves _ _
+          (c.note_line.ensures.serves _ (serves g at) (c.in_ok-note_line.was ∙ ap (λ (taken : Turn). Ok taken) c.in-Accepted.is));
+      quiet = c.tidy.ensures.quiet ∙ c.note_line.ensures.quiet ∙ inv.quiet;
+      valuations = c.tidy.ensures.valuations ∙ c.note_line.ensures.valuations ∙ inv.valuations;
     }
 
 pub returns-then-is_past-clause-told : goal.returns-then-is_past-clause-told
@@ -112,47 +156,43 @@ returns-then-is_past-clause-still g c = c.loop-line.invariant.noting.still
 
 pub returns-in-Refused-clause-told : goal.returns-in-Refused-clause-told
 returns-in-Refused-clause-told g c =
-    let at = (goal.at.returns-in-Refused-clause-told g c).After-note_next in
-    let takes = turn g at (Ok (Refused c.in-Refused.code)) (subst (λ (taken : Turn). Takes g at (g.M.LineSession.valuations c.loop-line.session) (Ok taken)) c.in-Refused.is (c.in_ok-note_next.ensures.turn _ (serves g at))) in
+    let at = (goal.at.returns-in-Refused-clause-told g c).After-note_line in
+    let takes = turn g at _ (Refused c.in-Refused.code) c.in-Refused.is (c.in_ok-note_line.ensures.turn _ (serves g at)) in
     rw (sym c.cut_line-cut.ensures)
-    (noting_refused _ _ _ (g.M.LineSession.sessions c.args.session.now) _ _ _ _ (g.M.LineSession.sessions c.loop-line.session) _ _ _ _ _ (so g at) c.in-Refused.code (g.M.SharesMaker.maker c.note_next.new.session) (g.M.LineSession.sessions c.note_next.new.session)
-    c.note_next.new.notes (g.A.Analyst.analysed c.note_next.new.analyst) takes.0 takes.1)
-
-pub returns-in-Refused-clause-still : goal.returns-in-Refused-clause-still
-returns-in-Refused-clause-still g c =
-    let at = (goal.at.returns-in-Refused-clause-still g c).After-note_next in
-    noting_still _ _ _ (g.M.LineSession.sessions c.args.session.now) _ _ _ _ (g.M.LineSession.sessions c.loop-line.session) _ _ _ _ _ (so g at) (g.M.SharesMaker.maker c.note_next.new.session) c.note_next.new.kept
-    c.in_ok-note_next.ensures.still
-
-pub returns-in-Refused-clause-valued : goal.returns-in-Refused-clause-valued
-returns-in-Refused-clause-valued g c =
-    subst (AreValuationsOf (g.M.SharesMaker.maker c.note_next.new.session)) c.loop-line.invariant.valuations c.in_ok-note_next.ensures.valued
+    (noting_refused _ _ _ (g.M.LineSession.sessions c.args.session.now) _ _ _ _ (g.M.LineSession.sessions c.loop-line.session) _ _ _ _ _ (so g at)
+    c.in-Refused.code (g.M.SharesMaker.maker c.note_line.new.session) (g.M.LineSession.sessions c.note_line.new.session)
+    c.note_line.new.notes (g.A.Analyst.analysed c.note_line.new.analyst) takes.0 takes.1)
 
 pub returns-in-TooLarge-clause-told : goal.returns-in-TooLarge-clause-told
 returns-in-TooLarge-clause-told g c =
-    let at = (goal.at.returns-in-TooLarge-clause-told g c).After-note_next in
-    let takes = turn g at (Ok (TooLarge c.in-TooLarge.fault)) (subst (λ (taken : Turn). Takes g at (g.M.LineSession.valuations c.loop-line.session) (Ok taken)) c.in-TooLarge.is (c.in_ok-note_next.ensures.turn _ (serves g at))) in
+    let at = (goal.at.returns-in-TooLarge-clause-told g c).After-note_line in
+    let takes = turn g at _ (TooLarge c.in-TooLarge.fault) c.in-TooLarge.is (c.in_ok-note_line.ensures.turn _ (serves g at)) in
     rw (sym c.cut_line-cut.ensures)
-    (noting_large _ _ _ (g.M.LineSession.sessions c.args.session.now) _ _ _ _ (g.M.LineSession.sessions c.loop-line.session) _ _ _ _ _ (so g at) c.in-TooLarge.fault (g.M.SharesMaker.maker c.note_next.new.session) (g.M.LineSession.sessions c.note_next.new.session)
-    c.note_next.new.notes (g.A.Analyst.analysed c.note_next.new.analyst) takes.0 takes.1)
+    (noting_large _ _ _ (g.M.LineSession.sessions c.args.session.now) _ _ _ _ (g.M.LineSession.sessions c.loop-line.session) _ _ _ _ _ (so g at)
+    c.in-TooLarge.fault (g.M.SharesMaker.maker c.note_line.new.session) (g.M.LineSession.sessions c.note_line.new.session)
+    c.note_line.new.notes (g.A.Analyst.analysed c.note_line.new.analyst) takes.0 takes.1)
 
-pub returns-in-TooLarge-clause-still : goal.returns-in-TooLarge-clause-still
-returns-in-TooLarge-clause-still g c =
-    let at = (goal.at.returns-in-TooLarge-clause-still g c).After-note_next in
-    noting_still _ _ _ (g.M.LineSession.sessions c.args.session.now) _ _ _ _ (g.M.LineSession.sessions c.loop-line.session) _ _ _ _ _ (so g at) (g.M.SharesMaker.maker c.note_next.new.session) c.note_next.new.kept
-    c.in_ok-note_next.ensures.still
+pub returns-in-Refused-clause-valued : goal.returns-in-Refused-clause-valued
+returns-in-Refused-clause-valued g c = valued g (goal.at.returns-in-Refused-clause-valued g c).In_ok-note_line
+
+pub returns-in-Refused-clause-still : goal.returns-in-Refused-clause-still
+returns-in-Refused-clause-still g c = still g (goal.at.returns-in-Refused-clause-still g c).In_ok-note_line
 
 pub returns-in-TooLarge-clause-valued : goal.returns-in-TooLarge-clause-valued
-returns-in-TooLarge-clause-valued g c =
-    subst (AreValuationsOf (g.M.SharesMaker.maker c.note_next.new.session)) c.loop-line.invariant.valuations c.in_ok-note_next.ensures.valued
+returns-in-TooLarge-clause-valued g c = valued g (goal.at.returns-in-TooLarge-clause-valued g c).In_ok-note_line
 
-pub returns-in_err-note_next-clause-among : goal.returns-in_err-note_next-clause-among
-returns-in_err-note_next-clause-among g c =
-    let at = (goal.at.returns-in_err-note_next-clause-among g c).After-note_next in
-    passed_on _ c.from_residual.result _ c.from_residual.ensures.1 (noting_among _ _ _ (g.M.LineSession.sessions c.args.session.now) _ _ _ _ (g.M.LineSession.sessions c.loop-line.session) _ _ _ _ _ (so g at) _ c.in_err-note_next.ensures.number)
+pub returns-in-TooLarge-clause-still : goal.returns-in-TooLarge-clause-still
+returns-in-TooLarge-clause-still g c = still g (goal.at.returns-in-TooLarge-clause-still g c).In_ok-note_line
 
-pub returns-in_err-note_next-clause-unwritten : goal.returns-in_err-note_next-clause-unwritten
-returns-in_err-note_next-clause-unwritten g c = passed_on _ c.from_residual.result _ c.from_residual.ensures.1 c.in_err-note_next.ensures.unwritten
+pub returns-in_err-note_line-clause-among : goal.returns-in_err-note_line-clause-among
+returns-in_err-note_line-clause-among g c =
+    let at = (goal.at.returns-in_err-note_line-clause-among g c).After-note_line in
+    passed_on _ c.from_residual.result _ c.from_residual.ensures.1
+    (noting_among _ _ _ (g.M.LineSession.sessions c.args.session.now) _ _ _ _ (g.M.LineSession.sessions c.loop-line.session) _ _ _ _ _ (so g at) _
+    c.in_err-note_line.ensures.number)
+
+pub returns-in_err-note_line-clause-unwritten : goal.returns-in_err-note_line-clause-unwritten
+returns-in_err-note_line-clause-unwritten g c = passed_on _ c.from_residual.result _ c.from_residual.ensures.1 c.in_err-note_line.ensures.unwritten
 
 pub returns-clause-told : goal.returns-clause-told
 returns-clause-told g c =
@@ -167,8 +207,3 @@ returns-clause-valued g c = c.loop-line.invariant.noting.valued
 
 pub returns-clause-still : goal.returns-clause-still
 returns-clause-still g c = c.loop-line.invariant.noting.still
-
-pub note_next-requires-clause-served : goal.note_next-requires-clause-served
-note_next-requires-clause-served g c =
-    let here = here_left c.args.stop _ _ _ c.is_past.result c.in-Some.ensures.steps c.is_past.ensures c.if-is_past.false in
-    (before_stop c.args.stop c.next.new.self, subst (g.M.LineSession.serves c.loop-line.session c.cut_line-cut.result) here c.loop-line.invariant.serves)

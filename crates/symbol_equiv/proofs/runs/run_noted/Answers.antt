@@ -7,9 +7,8 @@ use Rattle.symbol_meaning.specs.Scripts.{NamedStop, before_stop}
 use Rattle.symbol_comparing.specs.Told.{AreValuationsOf}
 use Rattle.symbol_run.specs.Answers.{cause_text}
 use Rattle.symbol_run.specs.Halts.{StopsAmong}
-use Rattle.symbol_equiv.specs.declared.runs.Ran.{Ran}
 use Rattle.symbol_equiv.proofs.AnswerLemmas.{RefusedTo, ends_by, noted_by, notes_carried, refusal_begun, refusal_written, refused_by}
-use Rattle.symbol_equiv.proofs.FaultLemmas.{leave_counts, leave_refused, leave_stopped, run_counts, run_refused, run_stopped}
+use Rattle.symbol_equiv.proofs.FaultLemmas.{run_stopped}
 use Rattle.symbol_equiv.proofs.KeptLemmas.{notes_kept, still_then, valued_later}
 use Rattle.symbol_equiv.proofs.runs.run_noted.Given.{Over}
 use Rattle.symbol_equiv.proofs.runs.run_noted.Goals.{After-refuse_run}
@@ -23,16 +22,6 @@ returns-in_err-session-clause-told g c =
     c.args.kept.now c.args.kept.now (g.S.Sink.written c.args.out.now) (g.S.Sink.written c.args.out.now) (g.A.Analyst.analysed c.args.analyst.now)
     (g.A.Analyst.analysed c.args.analyst.now) c.in_err-session.field-0.0 refl
     (c.in_err-session.ensures.among c.args.text.now c.requires.valuations))
-
-pub returns-in_err-session-clause-write : goal.returns-in_err-session-clause-write
-returns-in_err-session-clause-write g c =
-    let stopped = err_from_is_err_and c.from_residual.result c.from_residual.ensures.1 in
-    rw (stopped.1, stopped.2) (run_counts Ran (g.S.Sink.faults c.args.out.now) c.in_err-session.field-0.0 c.in_err-session.ensures.unwritten)
-
-pub returns-in_err-session-clause-refused : goal.returns-in_err-session-clause-refused
-returns-in_err-session-clause-refused g c =
-    let stopped = err_from_is_err_and c.from_residual.result c.from_residual.ensures.1 in
-    rw (stopped.1, stopped.2) (run_refused Ran (g.S.Sink.refusals c.args.out.now) c.in_err-session.field-0.0)
 
 pub note_lines-requires-clause-serves : goal.note_lines-requires-clause-serves
 note_lines-requires-clause-serves g c =
@@ -66,16 +55,6 @@ returns-in_err-halt-clause-told g c =
     (subst (λ (stop : Option NamedStop). StopsAmong (before_stop stop (file.lines_in c.args.text.now)) c.in_err-halt.field-0.0) c.requires.stop
     c.in_err-halt.ensures.among))
 
-pub returns-in_err-halt-clause-write : goal.returns-in_err-halt-clause-write
-returns-in_err-halt-clause-write g c =
-    let stopped = err_from_is_err_and c.from_residual-in_err-halt.result c.from_residual-in_err-halt.ensures.1 in
-    rw (stopped.1, stopped.2) (run_counts Ran (g.S.Sink.faults c.args.out.now) c.in_err-halt.field-0.0 c.in_err-halt.ensures.unwritten)
-
-pub returns-in_err-halt-clause-refused : goal.returns-in_err-halt-clause-refused
-returns-in_err-halt-clause-refused g c =
-    let stopped = err_from_is_err_and c.from_residual-in_err-halt.result c.from_residual-in_err-halt.ensures.1 in
-    rw (stopped.1, stopped.2) (run_refused Ran (g.S.Sink.refusals c.args.out.now) c.in_err-halt.field-0.0)
-
 pub leave-requires-clause-kept : goal.leave-requires-clause-kept
 leave-requires-clause-kept g c = c.in_ok-halt.ensures.still.whole
 
@@ -90,24 +69,6 @@ leave-requires-clause-noted g c =
     (λ column inside. c.in_ok-session.ensures.sessions column
     (subst (λ (own : Valuations). column < own.columns) c.in_ok-session.ensures.valuations inside))
     c.in_ok-halt.ensures.valued c.in_ok-halt.ensures.told).whole
-
-pub returns-in_err-symbols-clause-told : goal.returns-in_err-symbols-clause-told
-returns-in_err-symbols-clause-told g c =
-    let stopped = err_from_is_err_and c.from_residual-in_err-symbols.result c.from_residual-in_err-symbols.ensures.1 in
-    rw (stopped.1, stopped.2)
-    (leave_stopped c.args.net.now (file.cut_line c.args.text.now) (g.T.SessionStart.starts c.args.start) (file.lines_in c.args.text.now) c.args.symbols
-    c.args.kept.now c.leave.new.kept (g.S.Sink.written c.args.out.now) (g.S.Sink.written c.args.out.now) (g.A.Analyst.analysed c.args.analyst.now)
-    (g.A.Analyst.analysed c.note_lines.new.analyst) c.in_err-symbols.field-0.0 c.in_err-symbols.ensures.unwritten refl)
-
-pub returns-in_err-symbols-clause-write : goal.returns-in_err-symbols-clause-write
-returns-in_err-symbols-clause-write g c =
-    let stopped = err_from_is_err_and c.from_residual-in_err-symbols.result c.from_residual-in_err-symbols.ensures.1 in
-    rw (stopped.1, stopped.2) (leave_counts Ran (g.S.Sink.faults c.args.out.now) c.in_err-symbols.field-0.0 c.in_err-symbols.ensures.unwritten)
-
-pub returns-in_err-symbols-clause-refused : goal.returns-in_err-symbols-clause-refused
-returns-in_err-symbols-clause-refused g c =
-    let stopped = err_from_is_err_and c.from_residual-in_err-symbols.result c.from_residual-in_err-symbols.ensures.1 in
-    rw (stopped.1, stopped.2) (leave_refused Ran (g.S.Sink.refusals c.args.out.now) c.in_err-symbols.field-0.0 c.in_err-symbols.ensures.unwritten)
 
 pub returns-then-is_whole-clause-told : goal.returns-then-is_whole-clause-told
 returns-then-is_whole-clause-told g c =

@@ -2,7 +2,7 @@
 use Rattle.std.proofs.Common.{◌∙◌, refl, sym}
 use Rattle.symbol_looking.specs.Names.{all_looked}
 use Rattle.symbol_looking.specs.Tellings.{tellings}
-use Rattle.symbol_looking.proofs.HeardLemmas.{faults_told, refused_told, some_heard, tells_heard}
+use Rattle.symbol_looking.proofs.HeardLemmas.{faults_told, some_heard, tells_heard}
 use Rattle.symbol_looking.proofs.MergingLemmas.{session_looked}
 use Rattle.symbol_looking.proofs.looking.look.Goals as goal
 
@@ -29,6 +29,3 @@ returns-in-None-clause-merged g c = session_looked c.args.session.now c.args.nam
 pub returns-in-None-clause-faults : goal.returns-in-None-clause-faults
 returns-in-None-clause-faults g c =
     rw c.applied.ensures (c.look_all.ensures.faults ∙ faults_told (g.L.SymbolLines.faults c.args.out.now) c.look_all.result)
-
-pub returns-in-None-clause-refusals : goal.returns-in-None-clause-refusals
-returns-in-None-clause-refusals g c = rw c.applied.ensures (refused_told _ _ c.look_all.result c.look_all.ensures.refusals)

@@ -2,7 +2,7 @@
 use Rattle.std.proofs.Common.{◌∙◌, refl, sym}
 use Rattle.symbol_looking.specs.Names.{all_shown}
 use Rattle.symbol_looking.specs.Tellings.{tellings}
-use Rattle.symbol_looking.proofs.HeardLemmas.{faults_told, refused_told, tells_heard}
+use Rattle.symbol_looking.proofs.HeardLemmas.{faults_told, tells_heard}
 use Rattle.symbol_looking.proofs.MergingLemmas.{session_shown}
 use Rattle.symbol_looking.proofs.showing.show.Goals as goal
 
@@ -24,6 +24,3 @@ returns-in-None-clause-merged g c = session_shown c.args.session.now c.args.name
 pub returns-in-None-clause-faults : goal.returns-in-None-clause-faults
 returns-in-None-clause-faults g c =
     rw c.applied.ensures (c.show_all.ensures.faults ∙ faults_told (g.L.SymbolLines.faults c.args.out.now) c.show_all.result)
-
-pub returns-in-None-clause-refusals : goal.returns-in-None-clause-refusals
-returns-in-None-clause-refusals g c = rw c.applied.ensures (refused_told _ _ c.show_all.result c.show_all.ensures.refusals)

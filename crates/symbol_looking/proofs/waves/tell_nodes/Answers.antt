@@ -1,38 +1,15 @@
--- The line was heard, or a part of it; or memory lacked before.
-use Rattle.std.proofs.Common.{List, [], ◌∷◌, length, map, refl, sym, ap, subst, ◌∙◌}
+-- The line was heard, or a part of it.
+use Rattle.std.proofs.Common.{List, [], ◌∷◌, length, map, sym, ap, subst, ◌∙◌}
 use Rattle.std.specs.Prelude.{Option}
 use Rattle.std.proofs.lemmas.List.{length-map}
-use Rattle.std.proofs.lemmas.Result.{err_from_is_err_and}
 use Rattle.ternary.specs.declared.tern.Tern.{Tern}
 use Rattle.decision_graph.specs.declared.vertex.Function.{Function}
 use Rattle.symbol_told.specs.Lines.{Telling}
 use Rattle.symbol_looking.specs.Letters.{letter_on, rail_of}
 use Rattle.symbol_looking.specs.Tellings.{HearsSome}
 use Rattle.symbol_looking.specs.Waves.{wave_with}
-use Rattle.symbol_looking.proofs.HeardLemmas.{lacks_faults, lacks_once, none_heard, on_ok}
+use Rattle.symbol_looking.proofs.HeardLemmas.{on_ok}
 use Rattle.symbol_looking.proofs.waves.tell_nodes.Goals as goal
-
-pub returns-in_err-values-clause-heard : goal.returns-in_err-values-clause-heard
-returns-in_err-values-clause-heard g c =
-    let stopped = err_from_is_err_and c.from_residual.result c.from_residual.ensures.1 in
-    rw stopped.1 (none_heard g.L.SymbolLines.hear g.L.SymbolLines.part _ _ _ refl)
-
-pub returns-in_err-values-clause-faults : goal.returns-in_err-values-clause-faults
-returns-in_err-values-clause-faults g c = lacks_faults _ c.from_residual.result c.from_residual.ensures.1
-
-pub returns-in_err-values-clause-refusals : goal.returns-in_err-values-clause-refusals
-returns-in_err-values-clause-refusals g c = lacks_once _ c.from_residual.result c.from_residual.ensures.1
-
-pub returns-in_err-highs-clause-heard : goal.returns-in_err-highs-clause-heard
-returns-in_err-highs-clause-heard g c =
-    let stopped = err_from_is_err_and c.from_residual-in_err-highs.result c.from_residual-in_err-highs.ensures.1 in
-    rw stopped.1 (none_heard g.L.SymbolLines.hear g.L.SymbolLines.part _ _ _ refl)
-
-pub returns-in_err-highs-clause-faults : goal.returns-in_err-highs-clause-faults
-returns-in_err-highs-clause-faults g c = lacks_faults _ c.from_residual-in_err-highs.result c.from_residual-in_err-highs.ensures.1
-
-pub returns-in_err-highs-clause-refusals : goal.returns-in_err-highs-clause-refusals
-returns-in_err-highs-clause-refusals g c = lacks_once _ c.from_residual-in_err-highs.result c.from_residual-in_err-highs.ensures.1
 
 pub tell_values-requires : goal.tell_values-requires
 tell_values-requires g c =

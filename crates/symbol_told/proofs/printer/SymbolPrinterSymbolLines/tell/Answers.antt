@@ -8,4 +8,4 @@ use Rattle.symbol_told.proofs.printer.SymbolPrinterSymbolLines.tell.Goals as goa
 pub returns-clause-part : goal.returns-clause-part
 returns-clause-part g c =
     let old : Page = record { variables = c.self.inside.variables; written = g.S.Sink.written c.self.inside.sink; missed = c.self.inside.missed } in
-    rw (← c.self.view_is) (prints_part old _ (told_seen c.args.line) c.send_told.result refl (rw c.items.ensures at c.send_told.ensures.part))
+    rw (← c.self.view_is) (prints_part old _ (told_seen c.args.line) c.send_text.result refl (rw c.items.ensures at c.send_text.ensures.part))
