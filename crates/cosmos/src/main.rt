@@ -48,7 +48,7 @@ ghost use Rattle.cosmos_app.specs.Answers.{IsAnswered};
 ghost use Rattle.symbol_app.specs.Comparisons.{IsComparedTo};
 ghost use Rattle.cosmos_app.specs.Counts.{files_count, sink_count};
 ghost use Rattle.cosmos_app.specs.Dumping.{IsDumpTo};
-ghost use Rattle.symbol_app.specs.Named.{StartsInTurn};
+ghost use Rattle.symbol_app.specs.InTurn.{StartsInTurn};
 ghost use Rattle.cosmos_app.specs.Starts.{RequestStarts};
 ghost use Rattle.symbol_app.specs.Symbolic.{IsSymbolicTo};
 ghost use Rattle.cosmos_app.specs.Talking.{HandsOn, HasReadOnce, IsTalkTo};

@@ -8,3 +8,4 @@ pub mod PurposeLemmas
 mod TalkLemmas
 mod DumpLemmas
 mod AskedLemmas
+mod OverLemmas

@@ -7,7 +7,7 @@ use Rattle.circuit_files.specs.Starts.{Started}
 use Rattle.cosmos_app.specs.Starts.{ScriptStarts, QuestionStarts, IsAccepted}
 
 -- a text that means a circuit has no refusal
-accepted : {E : Type 0} (meaning_of : List ℕ → Result CircuitData E) (known : Option (List ℕ → List ℕ)) (net : List ℕ) (circuit : CircuitData) →
+pub accepted : {E : Type 0} (meaning_of : List ℕ → Result CircuitData E) (known : Option (List ℕ → List ℕ)) (net : List ℕ) (circuit : CircuitData) →
     IfSome known (λ holds. meaning_of (holds net) ≡ Ok circuit) → IfSome known (λ holds. IsAccepted (meaning_of (holds net)))
 accepted meaning_of None net circuit means = tt
 accepted {E} meaning_of (Some holds) net circuit means = subst (λ (meaning : Result CircuitData E). IsAccepted meaning) (sym means) tt

@@ -1,11 +1,7 @@
 -- What was said of a refusal, and what a talk that was stopped comes to.
-use Rattle.std.proofs.Common.{◌≡◌, ℕ, inl, inr, Bool, true, false, List, [], ◌++◌, Option, None, Some, IfSome, Result, Ok, Err, OnOk, refl, sym, ap, subst, ◌∙◌, arith, append-nil}
+use Rattle.std.proofs.Common.{◌≡◌, ℕ, inl, inr, List, [], ◌++◌, Option, None, Some, IfSome, Result, Ok, Err, OnOk, refl, sym, ap, subst, ◌∙◌, arith, append-nil}
 use Rattle.std.specs.Prelude.{option_map, unwrap_or}
 use Rattle.netlist.specs.Circuits.{CircuitData}
-use Rattle.sim_read.specs.declared.fault.NetRefusal.{NetRefusal}
-use Rattle.sim_read.specs.Meaning.{netlist_of}
-use Rattle.spice_cards.specs.declared.fault.DeckRefusal.{DeckRefusal}
-use Rattle.spice_read.specs.Making.{circuit_of}
 use Rattle.group_text.specs.Texts.{GroupTextData}
 use Rattle.talk_port.specs.Talks.{TalkData, SaysPart, said_next}
 use Rattle.run_ends.specs.declared.stop.End as end
@@ -16,10 +12,11 @@ use Rattle.run_ends.specs.Stops.{written_at}
 use Rattle.run_ends.specs.declared.stop.End.TheVariants as end_is
 use Rattle.run_ends.specs.declared.stop.Stop.TheVariants.{Read, Write, Memory}
 use Rattle.run_ends.specs.declared.status.Status.{Status}
-use Rattle.command_line.specs.Decks.{is_deck_name}
+use Rattle.cosmos_app.specs.declared.named.CircuitRefusal.{CircuitRefusal}
 use Rattle.cosmos_app.specs.Counts.{files_count}
+use Rattle.cosmos_app.specs.Named.{circuit_named}
 use Rattle.cosmos_app.proofs.CountLemmas.{files_counted}
-use Rattle.cosmos_app.specs.Talking.{HandsOn, ReadsOnce, HasReadOnce, SaysWhole, SaysText, SaysRefusal, IsTalkOver, IsTalkOverDeck, IsTalkBy, IsTalk, IsTalkTo}
+use Rattle.cosmos_app.specs.Talking.{HandsOn, ReadsOnce, HasReadOnce, SaysWhole, SaysText, SaysRefusal, IsTalkOver, IsTalk, IsTalkTo}
 
 -- the line of a refusal that was written to an empty sink was said
 pub said_refusal : (IsRefusal : Answer → Type 0) (old new : List ℕ) (before after : Option TalkData) (ending : end.End) (ended : Result end.End Stop) →
@@ -39,21 +36,15 @@ said_refusal IsRefusal old new before after ending ended empty written says = by
   by (Err stop) part = inr (written.answer, written.right, subst (SaysPart before after) text part)
 
 -- a talk that was stopped before it began
-untalked_by : (deck : Bool) (text : List ℕ) (asked : List GroupTextData) (talk : Option TalkData) (stop : Stop) →
-    IsTalkBy deck text asked talk talk (Err stop)
-untalked_by true text asked talk stop = of_deck (circuit_of text) where
-  of_deck : (meaning : Result CircuitData DeckRefusal) → IsTalkOverDeck meaning asked talk talk (Err stop)
-  of_deck (Ok circuit) = inl refl
-  of_deck (Err refusal) = inl refl
-untalked_by false text asked talk stop = of_net (netlist_of text) where
-  of_net : (meaning : Result CircuitData NetRefusal) → IsTalkOver meaning asked talk talk (Err stop)
-  of_net (Ok circuit) = inl refl
-  of_net (Err refusal) = inl refl
+untalked_over : (meaning : Result CircuitData CircuitRefusal) (asked : List GroupTextData) (talk : Option TalkData) (stop : Stop) →
+    IsTalkOver meaning asked talk talk (Err stop)
+untalked_over (Ok circuit) asked talk stop = inl refl
+untalked_over (Err refusal) asked talk stop = inl refl
 
 pub untalked : (known : Option (List ℕ → List ℕ)) (net : List ℕ) (asked : List GroupTextData) (talk : Option TalkData) (stop : Stop) →
     IfSome known (λ holds. IsTalk net holds asked talk talk (Err stop))
 untalked None net asked talk stop = tt
-untalked (Some holds) net asked talk stop = untalked_by (is_deck_name net) (holds net) asked talk stop
+untalked (Some holds) net asked talk stop = untalked_over (circuit_named net (holds net)) asked talk stop
 
 -- a text that was said, whether it was handed on or not, was said at least in part
 pub said_whole : {E : Type 0} (text : List ℕ) (before mid after : Option TalkData) (result : Result (Unit {0}) E) → after ≡ mid →

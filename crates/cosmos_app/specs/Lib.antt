@@ -5,4 +5,6 @@ pub mod Starts
 pub mod Counts
 pub mod Wholes
 pub mod Talking
+pub mod Named
 pub mod Dumping
+pub mod Words

@@ -1,13 +1,8 @@
 -- What a talk comes to, by what its netlist or its deck means.
-use Rattle.std.specs.Prelude.{◌≡◌, ◌⊎◌, ℕ, Bool, true, false, List, Option, option_map, Result, Ok, Err}
+use Rattle.std.specs.Prelude.{◌≡◌, ◌⊎◌, ℕ, List, Option, option_map, Result, Ok, Err}
 use Rattle.netlist.specs.Circuits.{CircuitData}
-use Rattle.sim_read.specs.Meaning.{netlist_of}
-use Rattle.sim_read.specs.declared.fault.NetRefusal.{NetRefusal}
-use Rattle.spice_cards.specs.declared.fault.DeckRefusal.{DeckRefusal}
-use Rattle.spice_read.specs.Making.{circuit_of}
 use Rattle.group_text.specs.Texts.{GroupTextData}
 use Rattle.talk_port.specs.Talks.{TalkData, SaysPart, said_next}
-use Rattle.command_line.specs.Decks.{is_deck_name}
 use Rattle.run_ends.specs.declared.stop.End as end
 use Rattle.run_ends.specs.declared.stop.Stop.{Stop}
 use Rattle.run_ends.specs.Answers.{Answer}
@@ -15,8 +10,9 @@ use Rattle.run_ends.specs.Ends.{status_of, status_after}
 use Rattle.run_ends.specs.Stops.{faults_read}
 use Rattle.run_ends.specs.declared.status.Status.{Status}
 use Rattle.run_ends.specs.declared.status.Status.TheVariants.{ReadFault, WriteFault, NoMemory}
+use Rattle.cosmos_app.specs.declared.named.CircuitRefusal.{CircuitRefusal}
 use Rattle.cosmos_app.specs.Counts.{files_count}
-use Rattle.circuit_reports.specs.Answers.{IsNetRefusal, IsDeckRefusal}
+use Rattle.cosmos_app.specs.Named.{circuit_named, IsCircuitRefusal}
 use Rattle.talk_run.specs.Talking.{TalksIn}
 
 -- a text was said; at a fault a part of it
@@ -36,24 +32,14 @@ SaysRefusal IsRefusal before after (Ok ending) =
 SaysRefusal IsRefusal before after (Err stop) =
     (after ≡ before) ⊎ ((answer : Answer) × IsRefusal answer × SaysPart before after answer.text)
 
--- the talk about a netlist of this meaning: that in its circuit, or its refusal
-abbrev pub IsTalkOver : Result CircuitData NetRefusal → List GroupTextData → Option TalkData → Option TalkData → Result end.End Stop → Type 0
+-- the talk about a netlist or a deck of this meaning: that in its circuit, or its refusal
+abbrev pub IsTalkOver : Result CircuitData CircuitRefusal → List GroupTextData → Option TalkData → Option TalkData → Result end.End Stop → Type 0
 IsTalkOver (Ok circuit) asked before after ended = TalksIn circuit asked before after ended
-IsTalkOver (Err refusal) asked before after ended = SaysRefusal (IsNetRefusal refusal) before after ended
-
--- the talk about a deck of this meaning
-abbrev pub IsTalkOverDeck : Result CircuitData DeckRefusal → List GroupTextData → Option TalkData → Option TalkData → Result end.End Stop → Type 0
-IsTalkOverDeck (Ok circuit) asked before after ended = TalksIn circuit asked before after ended
-IsTalkOverDeck (Err refusal) asked before after ended = SaysRefusal (IsDeckRefusal refusal.line refusal.what) before after ended
-
--- the talk about a text, a deck's or a netlist's
-abbrev pub IsTalkBy : Bool → List ℕ → List GroupTextData → Option TalkData → Option TalkData → Result end.End Stop → Type 0
-IsTalkBy true text asked before after ended = IsTalkOverDeck (circuit_of text) asked before after ended
-IsTalkBy false text asked before after ended = IsTalkOver (netlist_of text) asked before after ended
+IsTalkOver (Err refusal) asked before after ended = SaysRefusal (IsCircuitRefusal refusal) before after ended
 
 -- the talk about what a name holds: a deck if the name is that of one, and else a netlist
 abbrev pub IsTalk : List ℕ → (List ℕ → List ℕ) → List GroupTextData → Option TalkData → Option TalkData → Result end.End Stop → Type 0
-IsTalk net holds asked before after ended = IsTalkBy (is_deck_name net) (holds net) asked before after ended
+IsTalk net holds asked before after ended = IsTalkOver (circuit_named net (holds net)) asked before after ended
 
 -- and it ends with this status
 abbrev pub IsTalkTo : List ℕ → (List ℕ → List ℕ) → List GroupTextData → Option TalkData → Option TalkData → Status → Type 0

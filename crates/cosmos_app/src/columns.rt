@@ -1,9 +1,7 @@
 //! What `batch` writes: the run of a script in columns, on the machine of columns.
 
 ghost use Rattle.std.specs.Prelude.{◌≡◌, ◌≢◌, IfErr};
-ghost use Rattle.netlist.specs.Circuits.{IsCircuit};
-ghost use Rattle.run_ends.specs.Stops.{faults_written, IsRefusedOnce};
-ghost use Rattle.run_ends.specs.Ends.{IsToldBy};
+ghost use Rattle.cosmos_app.specs.Words.{IsCircuit, faults_written, IsRefusedOnce, IsToldBy};
 ghost use Rattle.cosmos_app.specs.ColumnRuns as spec;
 
 use column_machine_stage::ColumnMachineStage;

@@ -1,27 +1,17 @@
 //! The dump of a script's run, over a netlist or a deck.
 
 ghost use Rattle.std.specs.Prelude.{◌≡◌, ◌+◌, [], ◌∷◌, IfOk, IfSome};
-ghost use Rattle.ports.specs.Taken.{TakesFiles};
-ghost use Rattle.netlist.specs.Circuits.{IsCircuit};
-ghost use Rattle.sim_read.specs.Meaning.{netlist_of};
-ghost use Rattle.spice_read.specs.Making.{circuit_of};
-ghost use Rattle.command_line.specs.Requests.{Simulate, over};
-ghost use Rattle.circuit_files.specs.Starts.{StartsAtMost};
-ghost use Rattle.circuit_files.specs.Wholes.{ReadsWhole};
-ghost use Rattle.circuit_reports.specs.Answers.{IsOver, IsOverDeck};
-ghost use Rattle.run_ends.specs.Ends.{IsToldBy, IsUntouched};
-ghost use Rattle.run_ends.specs.Stops.{IsRefusedOnce, faults_read, faults_written};
-ghost use Rattle.dump_run.specs.Dumped.{IsDumped};
+ghost use Rattle.cosmos_app.specs.Words.{TakesFiles, IsCircuit, Simulate, over, StartsAtMost, ReadsWhole, IsToldBy, IsUntouched};
+ghost use Rattle.cosmos_app.specs.Words.{IsRefusedOnce, faults_read, faults_written, IsDumped};
 ghost use Rattle.cosmos_app.specs.Counts.{HasRefused, files_count, sink_count};
 ghost use Rattle.cosmos_app.specs.Dumping.{IsDump, IsDumpTo};
-ghost use Rattle.cosmos_app.specs.Starts.{QuestionStarts, RequestStarts};
-ghost use Rattle.cosmos_app.specs.Wholes.{ReadsAll, files_of, needed};
+ghost use Rattle.cosmos_app.specs.Starts.{RequestStarts};
+ghost use Rattle.cosmos_app.specs.Wholes.{ReadsAll, files_of};
 
+use crate::named::{read_named, refuse_circuit};
 use crate::top::end_status;
-use circuit_files::{read_circuit, read_deck_file, read_file};
-use circuit_reports::{refuse_deck, refuse_net};
+use circuit_files::read_file;
 use column_stage::PlainStage;
-use command_line::is_deck_name;
 use dump_run::dump_script;
 use group_analysis::Analyst;
 use line_words::MOST_FILE_BYTES;
@@ -65,7 +55,8 @@ pub fn dump<M: PlainStage, F: Files, S: Sink + Drop, A: Analyst>(
     (sink, end_status(end))
 }
 
-// Dumps the run of the script in the circuit of the deck, if the name is that of one, or else of the netlist.
+// Reads the netlist, or the deck if the name is that of one, and dumps the run of the script in its circuit.
+#[tactic(auto, using(run_ends::proofs::EndLemmas::read_none, run_ends::proofs::EndLemmas::untouched_none))]
 fn dump_named<M: PlainStage, F: Files, S: Sink + Drop, A: Analyst>(
     alloc: Global,
     net: &str,
@@ -86,73 +77,12 @@ fn dump_named<M: PlainStage, F: Files, S: Sink + Drop, A: Analyst>(
     ensures refused { IsRefusedOnce (S.refusals out) (S.refusals result.0) result.1 }
     ensures untouched { IsUntouched (S.written out) (S.written result.0) result.1 }
 {
-    if is_deck_name(net) {
-        dump_deck::<M, _, _, _>(alloc, net, script, files, out, analyst)
-    } else {
-        dump_net::<M, _, _, _>(alloc, net, script, files, out, analyst)
-    }
-}
-
-// Reads the netlist, and dumps the run of the script in its circuit.
-#[tactic(auto, using(run_ends::proofs::EndLemmas::read_none, run_ends::proofs::EndLemmas::untouched_none))]
-fn dump_net<M: PlainStage, F: Files, S: Sink + Drop, A: Analyst>(
-    alloc: Global,
-    net: &str,
-    script: &str,
-    files: &mut F,
-    out: S,
-    analyst: &mut A,
-) -> (S, Result<End, Stop>)
-    ensures told { IfSome (F.holds files.old) (λ holds. IsToldBy (IsOver (IsDumped (holds script.now)) (netlist_of (holds net.now)))
-        (S.written out) (S.written result.0) (A.analysed analyst.old) (A.analysed analyst.new) result.1) }
-    ensures started { QuestionStarts netlist_of net.now (Simulate script.now) (F.holds files.old) (F.started files.old) (F.started files.new) }
-    ensures taken { TakesFiles (F.taken files.old) (F.taken files.new) (MOST_FILE_BYTES + 1) }
-    ensures whole { IfOk result.1 (λ _. IfSome (F.holds files.old) (λ holds.
-        ReadsWhole (F.taken files.old) (F.taken files.new) holds (needed (Simulate script.now) net.now (netlist_of (holds net.now))))) }
-    ensures read { F.faults files.new ≡ faults_read (F.faults files.old) result.1 }
-    ensures write { S.faults result.0 ≡ faults_written (S.faults out) result.1 }
-    ensures refused { IsRefusedOnce (S.refusals out) (S.refusals result.0) result.1 }
-    ensures untouched { IsUntouched (S.written out) (S.written result.0) result.1 }
-{
     let mut refused = Vec::new(alloc);
-    match read_circuit(alloc, files, net, &mut refused) {
+    match read_named(alloc, files, net, &mut refused) {
         Ok(Ok(circuit)) => dump_file::<M, _, _, _>(alloc, circuit, script, files, out, analyst),
         Ok(Err(refusal)) => {
             let mut sink = out;
-            let end = refuse_net(alloc, refusal, &refused, &mut sink);
-            (sink, end)
-        }
-        Err(stop) => (out, Err(stop)),
-    }
-}
-
-// Reads the deck, and dumps the run of the script in its circuit.
-#[tactic(auto, using(run_ends::proofs::EndLemmas::read_none, run_ends::proofs::EndLemmas::untouched_none))]
-fn dump_deck<M: PlainStage, F: Files, S: Sink + Drop, A: Analyst>(
-    alloc: Global,
-    deck: &str,
-    script: &str,
-    files: &mut F,
-    out: S,
-    analyst: &mut A,
-) -> (S, Result<End, Stop>)
-    ensures told { IfSome (F.holds files.old) (λ holds. IsToldBy (IsOverDeck (IsDumped (holds script.now)) (circuit_of (holds deck.now)))
-        (S.written out) (S.written result.0) (A.analysed analyst.old) (A.analysed analyst.new) result.1) }
-    ensures started { QuestionStarts circuit_of deck.now (Simulate script.now) (F.holds files.old) (F.started files.old) (F.started files.new) }
-    ensures taken { TakesFiles (F.taken files.old) (F.taken files.new) (MOST_FILE_BYTES + 1) }
-    ensures whole { IfOk result.1 (λ _. IfSome (F.holds files.old) (λ holds.
-        ReadsWhole (F.taken files.old) (F.taken files.new) holds (needed (Simulate script.now) deck.now (circuit_of (holds deck.now))))) }
-    ensures read { F.faults files.new ≡ faults_read (F.faults files.old) result.1 }
-    ensures write { S.faults result.0 ≡ faults_written (S.faults out) result.1 }
-    ensures refused { IsRefusedOnce (S.refusals out) (S.refusals result.0) result.1 }
-    ensures untouched { IsUntouched (S.written out) (S.written result.0) result.1 }
-{
-    let mut refused = Vec::new(alloc);
-    match read_deck_file(alloc, files, deck, &mut refused) {
-        Ok(Ok(circuit)) => dump_file::<M, _, _, _>(alloc, circuit, script, files, out, analyst),
-        Ok(Err(refusal)) => {
-            let mut sink = out;
-            let end = refuse_deck(alloc, refusal.line, refusal.what, &refused, &mut sink);
+            let end = refuse_circuit(alloc, refusal, &refused, &mut sink);
             (sink, end)
         }
         Err(stop) => (out, Err(stop)),
@@ -160,6 +90,7 @@ fn dump_deck<M: PlainStage, F: Files, S: Sink + Drop, A: Analyst>(
 }
 
 // Reads the script, and dumps its run in the circuit.
+#[tactic(auto, using(run_ends::proofs::EndLemmas::read_none, run_ends::proofs::EndLemmas::untouched_none))]
 fn dump_file<M: PlainStage, F: Files, S: Sink + Drop, A: Analyst>(
     alloc: Global,
     circuit: Circuit,

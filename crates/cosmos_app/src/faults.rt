@@ -1,13 +1,9 @@
 //! Judging the faults of a list that a file holds.
 
 ghost use Rattle.std.specs.Prelude.{◌≡◌, ◌+◌, [], ◌∷◌, IfSome, IfOk};
-ghost use Rattle.ports.specs.Taken.{TakesFiles};
-ghost use Rattle.netlist.specs.Circuits.{HasVisibleNames};
-ghost use Rattle.run_ends.specs.Stops.{faults_read, faults_written, IsRefusedOnce};
-ghost use Rattle.run_ends.specs.Ends.{IsToldBy, IsUntouched};
-ghost use Rattle.fault_meaning.specs.Judging.{AreJudgedFaults};
+ghost use Rattle.cosmos_app.specs.Words.{TakesFiles, HasVisibleNames, faults_read, faults_written, IsRefusedOnce, IsToldBy, IsUntouched};
+ghost use Rattle.cosmos_app.specs.Words.{AreJudgedFaults, ReadsWhole};
 ghost use Rattle.cosmos_app.specs.Starts.{StartsInOrder};
-ghost use Rattle.circuit_files.specs.Wholes.{ReadsWhole};
 
 use circuit_files::read_file;
 use fault_runs::judge_faults;

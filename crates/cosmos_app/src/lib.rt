@@ -11,7 +11,7 @@
 //!
 //! `talk` holds the talk about a netlist or a deck, by its name; its contract says by turns that each line was answered
 //! before the next one was asked for. `dump` writes the value change dump of a script's run, as it goes. Runs under all
-//! valuations are in `symbol_app`.
+//! valuations are in `symbol_app`, which reads their circuits by `read_named` and tells a refusal by `refuse_circuit`.
 //!
 //! ```text
 //! run(alloc, ["sim", "inverter.sim", "inverter.cmd"], files, out)   is Status::Done
@@ -37,12 +37,14 @@
 mod columns;
 mod dumping;
 mod faults;
+mod named;
 mod noting;
 mod reports;
 mod talking;
 mod top;
 
 pub use dumping::dump;
+pub use named::{CircuitRefusal, read_named, refuse_circuit};
 pub use run_ends::{Status, Stop};
 pub use script_meaning::scripts_end_at_their_first_refused_line;
 pub use talking::talk;

@@ -1,11 +1,8 @@
 //! What is told of a circuit alone, by what is asked.
 
 ghost use Rattle.std.specs.Prelude.{◌≡◌, ◌≢◌, ℕ, List, IfErr};
-ghost use Rattle.netlist.specs.Circuits.{IsCircuit, HasVisibleNames};
-ghost use Rattle.command_line.specs.Requests.{report_seen};
+ghost use Rattle.cosmos_app.specs.Words.{IsCircuit, HasVisibleNames, report_seen, IsToldBy, faults_written, IsRefusedOnce};
 ghost use Rattle.cosmos_app.specs.Answers.{IsAnswerIn};
-ghost use Rattle.run_ends.specs.Ends.{IsToldBy};
-ghost use Rattle.run_ends.specs.Stops.{faults_written, IsRefusedOnce};
 
 use circuit_reports::{list_findings, list_groups, report_check, write_listing};
 use command_line::Report;

@@ -1,26 +1,19 @@
 //! A talk about a netlist or a deck.
 
 ghost use Rattle.std.specs.Prelude.{◌≡◌, ◌≢◌, ◌+◌, IfErr, IfSome, OnOk};
-ghost use Rattle.ports.specs.Ports.{faults_after};
-ghost use Rattle.ports.specs.Taken.{TakesFiles};
-ghost use Rattle.circuit_files.specs.Starts.{StartsAtMost};
-ghost use Rattle.circuit_reports.specs.Answers.{IsDeckRefusal, IsNetRefusal};
-ghost use Rattle.run_ends.specs.Stops.{faults_written};
+ghost use Rattle.cosmos_app.specs.Words.{faults_after, TakesFiles, StartsAtMost, faults_written};
 ghost use Rattle.cosmos_app.specs.Counts.{sink_count};
+ghost use Rattle.cosmos_app.specs.Named.{IsCircuitRefusal};
 ghost use Rattle.cosmos_app.specs.Talking.{HandsOn, HasReadOnce, IsTalk, IsTalkTo, ReadsOnce, SaysRefusal, SaysText, SaysWhole};
 
+use crate::named::{CircuitRefusal, read_named, refuse_circuit};
 use crate::noting::NotingSink;
 use crate::top::end_status;
-use circuit_files::{read_circuit, read_deck_file};
-use circuit_reports::{refuse_deck, refuse_net};
 use column_stage::PlainStage;
-use command_line::is_deck_name;
 use group_analysis::Analyst;
 use line_words::MOST_FILE_BYTES;
 use ports::{Files, PortFault};
 use run_ends::{End, Status, Stop};
-use sim_read::NetRefusal;
-use spice_cards::DeckWhat;
 use std::alloc::Global;
 use talk_port::Talk;
 use talk_run::{Teller, talk_in};
@@ -71,55 +64,27 @@ fn hold<M: PlainStage, F: Files, T: Talk + Drop, A: Analyst + Drop>(
     ensures taken { TakesFiles (F.taken files.old) (F.taken files.new) (MOST_FILE_BYTES + 1) }
 {
     let mut refused = Vec::new(alloc);
-    if is_deck_name(net) {
-        match read_deck_file(alloc, files, net, &mut refused)? {
-            Ok(circuit) => talk_in::<M, _, _>(alloc, circuit, analyst, out),
-            Err(refusal) => say_deck_refusal(alloc, refusal.line, refusal.what, &refused, out),
-        }
-    } else {
-        match read_circuit(alloc, files, net, &mut refused)? {
-            Ok(circuit) => talk_in::<M, _, _>(alloc, circuit, analyst, out),
-            Err(refusal) => say_net_refusal(alloc, refusal, &refused, out),
-        }
+    match read_named(alloc, files, net, &mut refused)? {
+        Ok(circuit) => talk_in::<M, _, _>(alloc, circuit, analyst, out),
+        Err(refusal) => say_refusal(alloc, refusal, &refused, out),
     }
 }
 
-// Says the line of a netlist's refusal.
-fn say_net_refusal<T: Talk + Drop>(
+// Says the line of the refusal of a netlist or a deck.
+fn say_refusal<T: Talk + Drop>(
     alloc: Global,
-    refusal: NetRefusal,
+    refusal: CircuitRefusal,
     line: &[u8],
     out: &mut Teller<T>,
 ) -> Result<End, Stop>
-    ensures said { SaysRefusal (IsNetRefusal refusal) out.old.spoken.talk out.new.spoken.talk result }
+    ensures said { SaysRefusal (IsCircuitRefusal refusal) out.old.spoken.talk out.new.spoken.talk result }
     ensures no_read { IfErr result (λ stop. stop ≢ Stop.Read) }
     ensures handed { OnOk result (out.new.behind ≡ 0) }
     ensures hearing { out.new.spoken.unheard ≡ out.old.spoken.unheard }
     ensures write { out.new.faults ≡ faults_written out.old.faults result }
 {
     let mut sink = NotingSink::new(alloc);
-    match refuse_net(alloc, refusal, line, &mut sink) {
-        Ok(end) => say_text(&sink, end, out),
-        Err(stop) => Err(stop),
-    }
-}
-
-// Says the line of a deck's refusal.
-fn say_deck_refusal<T: Talk + Drop>(
-    alloc: Global,
-    line: u64,
-    what: DeckWhat,
-    card: &[u8],
-    out: &mut Teller<T>,
-) -> Result<End, Stop>
-    ensures said { SaysRefusal (IsDeckRefusal line what) out.old.spoken.talk out.new.spoken.talk result }
-    ensures no_read { IfErr result (λ stop. stop ≢ Stop.Read) }
-    ensures handed { OnOk result (out.new.behind ≡ 0) }
-    ensures hearing { out.new.spoken.unheard ≡ out.old.spoken.unheard }
-    ensures write { out.new.faults ≡ faults_written out.old.faults result }
-{
-    let mut sink = NotingSink::new(alloc);
-    match refuse_deck(alloc, line, what, card, &mut sink) {
+    match refuse_circuit(alloc, refusal, line, &mut sink) {
         Ok(end) => say_text(&sink, end, out),
         Err(stop) => Err(stop),
     }

@@ -1,28 +1,22 @@
 //! The top call.
 
 ghost use Rattle.std.specs.Prelude.{◌≡◌, ◌≢◌, ◌+◌, ℕ, List, [], ◌∷◌, IfSome, IfOk, IfErr};
-ghost use Rattle.ports.specs.Taken.{TakesFiles};
-ghost use Rattle.netlist.specs.Circuits.{IsCircuit, HasVisibleNames};
-ghost use Rattle.command_line.specs.Requests.{alone_seen, names_of, question_seen};
+ghost use Rattle.cosmos_app.specs.Words.{TakesFiles, IsCircuit, HasVisibleNames, alone_seen, names_of, question_seen, faults_read};
+ghost use Rattle.cosmos_app.specs.Words.{faults_written, IsRefusedOnce, ReadsWhole, StartsAtMost, IsToldBy, IsUntouched, status_after};
 ghost use Rattle.command_line.specs.Requests as spec;
 ghost use Rattle.cosmos_app.specs.Answers.{IsAnswer, IsAnswered, IsAnswerIn, IsAnswerTo, IsSimulation};
-ghost use Rattle.circuit_reports.specs.Answers.{IsOver, IsOverDeck};
+ghost use Rattle.cosmos_app.specs.Named.{circuit_by, IsOverEither};
 ghost use Rattle.cosmos_app.specs.Purposes.{IsRunFor};
-ghost use Rattle.sim_read.specs.Meaning.{netlist_of};
-ghost use Rattle.spice_read.specs.Making.{circuit_of};
-ghost use Rattle.run_ends.specs.Stops.{faults_read, faults_written, IsRefusedOnce};
 ghost use Rattle.cosmos_app.specs.Counts.{files_count, sink_count, HasRefused};
 ghost use Rattle.cosmos_app.specs.Wholes.{files_of, needed, scripts_of, ReadsAll};
-ghost use Rattle.circuit_files.specs.Wholes.{ReadsWhole};
 ghost use Rattle.cosmos_app.specs.Starts.{QuestionStarts, RequestStarts, ScriptStarts};
-ghost use Rattle.circuit_files.specs.Starts.{StartsAtMost};
-ghost use Rattle.run_ends.specs.Ends.{IsToldBy, IsUntouched, status_after};
 
 use crate::columns::run_columns;
 use crate::faults::judge_list;
+use crate::named::{read_by, refuse_circuit};
 use crate::reports::report_on;
-use circuit_files::{read_circuit, read_deck_file, read_file};
-use circuit_reports::{refuse_deck, refuse_net, refuse_words, show_text, write_part};
+use circuit_files::read_file;
+use circuit_reports::{refuse_words, show_text, write_part};
 use column_stage::PlainStage;
 use command_line::{Alone, Purpose, Question, Request, request_of};
 use cosmos_session::Session;
@@ -150,12 +144,12 @@ fn answer<M: PlainStage, F: Files, S: Sink + Drop, A: Analyst>(
     ensures untouched { IsUntouched out.old out.new result }
 {
     match request_of(words) {
-        Request::About { net, question } => answer_about::<M, _, _, _>(
-            alloc, net, question, files, out, analyst,
-        ),
-        Request::OverDeck { deck, question } => answer_over_deck::<M, _, _, _>(
-            alloc, deck, question, files, out, analyst,
-        ),
+        Request::About { net, question } => {
+            answer_over::<M, _, _, _>(alloc, false, net, question, files, out, analyst)
+        }
+        Request::OverDeck { deck, question } => {
+            answer_over::<M, _, _, _>(alloc, true, deck, question, files, out, analyst)
+        }
         Request::Alone(alone) => answer_alone::<M, _, _>(alloc, files.keys(), alone, out, analyst),
     }
 }
@@ -182,67 +176,36 @@ fn answer_alone<M: PlainStage, S: Sink + Drop, A: Analyst>(
     }
 }
 
-// Reads the netlist, and answers the question in its circuit.
+// Reads the deck of this name, or else the netlist, and answers the question in its circuit.
 #[tactic(auto, using(run_ends::proofs::EndLemmas::read_none, run_ends::proofs::EndLemmas::untouched_none))]
-fn answer_about<M: PlainStage, F: Files, S: Sink + Drop, A: Analyst>(
+fn answer_over<M: PlainStage, F: Files, S: Sink + Drop, A: Analyst>(
     alloc: Global,
-    net: &str,
+    deck: bool,
+    name: &str,
     question: Question<'_>,
     files: &mut F,
     out: &mut Printer<S>,
     analyst: &mut A,
 ) -> Result<End, Stop>
     ensures told { IfSome (F.holds files.old) (λ holds. IsToldBy
-        (IsOver (IsAnswerIn (question_seen question.entry) holds) (netlist_of (holds net.now)))
+        (IsOverEither (IsAnswerIn (question_seen question.entry) holds) (circuit_by deck (holds name.now)))
         out.old.page.written out.new.page.written (A.analysed analyst.old) (A.analysed analyst.new) result) }
     ensures started { QuestionStarts
-        netlist_of net.now (question_seen question.entry)
+        (circuit_by deck) name.now (question_seen question.entry)
         (F.holds files.old) (F.started files.old) (F.started files.new) }
     ensures taken { TakesFiles (F.taken files.old) (F.taken files.new) (MOST_FILE_BYTES + 1) }
     ensures whole { IfOk result (λ _. IfSome (F.holds files.old) (λ holds.
         ReadsWhole (F.taken files.old) (F.taken files.new) holds
-        (needed (question_seen question.entry) net.now (netlist_of (holds net.now))))) }
+        (needed (question_seen question.entry) name.now (circuit_by deck (holds name.now))))) }
     ensures read { F.faults files.new ≡ faults_read (F.faults files.old) result }
     ensures write { out.new.faults ≡ faults_written out.old.faults result }
     ensures refused { IsRefusedOnce out.old.refusals out.new.refusals result }
     ensures untouched { IsUntouched out.old out.new result }
 {
     let mut refused = Vec::new(alloc);
-    match read_circuit(alloc, files, net, &mut refused)? {
+    match read_by(alloc, files, deck, name, &mut refused)? {
         Ok(circuit) => answer_in::<M, _, _, _>(alloc, circuit, question, files, out, analyst),
-        Err(refusal) => refuse_net(alloc, refusal, &refused, out),
-    }
-}
-
-// Reads the deck, and answers the question in its circuit.
-#[tactic(auto, using(run_ends::proofs::EndLemmas::read_none, run_ends::proofs::EndLemmas::untouched_none))]
-fn answer_over_deck<M: PlainStage, F: Files, S: Sink + Drop, A: Analyst>(
-    alloc: Global,
-    deck: &str,
-    question: Question<'_>,
-    files: &mut F,
-    out: &mut Printer<S>,
-    analyst: &mut A,
-) -> Result<End, Stop>
-    ensures told { IfSome (F.holds files.old) (λ holds. IsToldBy
-        (IsOverDeck (IsAnswerIn (question_seen question.entry) holds) (circuit_of (holds deck.now)))
-        out.old.page.written out.new.page.written (A.analysed analyst.old) (A.analysed analyst.new) result) }
-    ensures started { QuestionStarts
-        circuit_of deck.now (question_seen question.entry)
-        (F.holds files.old) (F.started files.old) (F.started files.new) }
-    ensures taken { TakesFiles (F.taken files.old) (F.taken files.new) (MOST_FILE_BYTES + 1) }
-    ensures whole { IfOk result (λ _. IfSome (F.holds files.old) (λ holds.
-        ReadsWhole (F.taken files.old) (F.taken files.new) holds
-        (needed (question_seen question.entry) deck.now (circuit_of (holds deck.now))))) }
-    ensures read { F.faults files.new ≡ faults_read (F.faults files.old) result }
-    ensures write { out.new.faults ≡ faults_written out.old.faults result }
-    ensures refused { IsRefusedOnce out.old.refusals out.new.refusals result }
-    ensures untouched { IsUntouched out.old out.new result }
-{
-    let mut refused = Vec::new(alloc);
-    match read_deck_file(alloc, files, deck, &mut refused)? {
-        Ok(circuit) => answer_in::<M, _, _, _>(alloc, circuit, question, files, out, analyst),
-        Err(refusal) => refuse_deck(alloc, refusal.line, refusal.what, &refused, out),
+        Err(refusal) => refuse_circuit(alloc, refusal, &refused, out),
     }
 }
 
@@ -284,6 +247,7 @@ fn answer_in<M: PlainStage, F: Files, S: Sink + Drop, A: Analyst>(
 }
 
 // Reads the script and runs it in the circuit, for a purpose.
+#[tactic(auto, using(run_ends::proofs::EndLemmas::read_none, run_ends::proofs::EndLemmas::untouched_none))]
 fn run_script<M: PlainStage, F: Files, S: Sink + Drop, A: Analyst>(
     alloc: Global,
     circuit: Circuit,

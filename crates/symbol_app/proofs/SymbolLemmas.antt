@@ -1,5 +1,5 @@
 -- What was told of a run under all valuations, of a text and of circuits, is told of their names, and so is what was started and read.
-use Rattle.std.proofs.Common.{◌≡◌, ◌≢◌, ℕ, ◌^◌, inl, inr, Bool, true, false, List, [], ◌∷◌, ◌++◌, length, Option, None, Some, IfSome, Result, Ok, Err, IfErr, IfOk, refl, sym, ap, subst, ◌∙◌, append-nil}
+use Rattle.std.proofs.Common.{◌≡◌, ◌≢◌, ℕ, ◌^◌, inl, inr, true, false, List, [], ◌∷◌, ◌++◌, length, Option, None, Some, IfSome, Result, Ok, Err, IfErr, refl, sym, ap, subst, ◌∙◌, append-nil}
 use Rattle.std.specs.Io.KnownBytes.{append_known}
 use Rattle.ports.specs.Ports.{with_name}
 use Rattle.ports.specs.Sending.{Sends, WritesPart}
@@ -8,11 +8,6 @@ use Rattle.ports.proofs.SendingLemmas.{append_known-append, append_known-nil, pa
 use Rattle.line_words.specs.Files.{cut_line, front_of, lines_in}
 use Rattle.netlist.specs.Circuits.{CircuitData, IsCircuit}
 use Rattle.group_text.specs.Texts.{GroupTextData}
-use Rattle.sim_read.specs.Meaning.{netlist_of}
-use Rattle.sim_read.specs.declared.fault.NetRefusal.{NetRefusal}
-use Rattle.spice_cards.specs.declared.fault.DeckRefusal.{DeckRefusal}
-use Rattle.spice_read.specs.Making.{circuit_of}
-use Rattle.command_line.specs.Decks.{is_deck_name}
 use Rattle.circuit_files.specs.Starts.{Started}
 use Rattle.circuit_files.specs.Wholes.{ReadsWhole}
 use Rattle.circuit_files.proofs.WholeLemmas.{whole_both}
@@ -43,13 +38,15 @@ use Rattle.symbol_equiv.specs.declared.fault.EqualFault.TheVariants as equal
 use Rattle.symbol_equiv.specs.Ends.{faults_equal, IsEqualBy, RefusedEqual}
 use Rattle.symbol_app.specs.declared.ends.SymbolEnd.{SymbolEnd}
 use Rattle.symbol_app.specs.declared.ends.SymbolEnd.TheVariants.{Ended, Full}
-use Rattle.symbol_app.specs.declared.named.CircuitRefusal.{CircuitRefusal}
-use Rattle.symbol_app.specs.declared.named.CircuitRefusal.TheVariants.{Deck, Net}
-use Rattle.symbol_app.specs.Comparisons.{ended_comparison, IsComparedIn, IsObeyedLine, RunsOutComparing, RunsOutWhere}
-use Rattle.symbol_app.specs.Named.{answer_behind, circuit_by, circuit_named, of_deck, of_net, read_behind, read_in_turn, IsBehind, IsCircuitRefusal, StartsInTurn}
-use Rattle.cosmos_app.specs.Starts.{IsAccepted}
-use Rattle.symbol_app.specs.Symbolic.{ended_run, stop_unread, IsBrokenAtStart, IsSymbolic, IsToldInAll, RunsOutAt}
+use Rattle.cosmos_app.specs.declared.named.CircuitRefusal.{CircuitRefusal}
+use Rattle.cosmos_app.specs.declared.named.CircuitRefusal.TheVariants.{Deck, Net}
+use Rattle.cosmos_app.specs.Named.{circuit_named, IsCircuitRefusal}
+use Rattle.cosmos_app.proofs.NetLemmas.{refusal_texts}
 use Rattle.cosmos_app.proofs.PurposeLemmas.{at_front}
+use Rattle.cosmos_app.proofs.StartLemmas.{accepted}
+use Rattle.symbol_app.specs.Comparisons.{ended_comparison, IsComparedIn, IsObeyedLine, RunsOutComparing, RunsOutWhere}
+use Rattle.symbol_app.specs.InTurn.{answer_behind, read_behind, read_in_turn, IsBehind, StartsInTurn}
+use Rattle.symbol_app.specs.Symbolic.{ended_run, stop_unread, IsBrokenAtStart, IsSymbolic, IsToldInAll, RunsOutAt}
 
 -- ---- what was told
 
@@ -64,15 +61,6 @@ told_in_all_as IsRight IsMeant RunsOut RunsShort old new before after (Ok (Full 
     (written, grew, short vertices line written out)
 told_in_all_as IsRight IsMeant RunsOut RunsShort old new before after (Err stop) means short told =
     told_by_as IsRight IsMeant old new before after (Err stop) means told
-
--- what is so of a meaning that a file has is so of the file
-pub of_meaning : {M : Type 0} (P : (List ℕ → List ℕ) → M → Type 0) (meaning_of : List ℕ → M) (known later : Option (List ℕ → List ℕ)) (file : List ℕ) (meaning : M) →
-    IfSome known (λ holds. meaning_of (holds file) ≡ meaning) → later ≡ known → IfSome later (λ holds. P holds meaning) →
-    IfSome known (λ holds. P holds (meaning_of (holds file)))
-of_meaning P meaning_of None later file meaning means kept is = tt
-of_meaning P meaning_of (Some holds) later file meaning means kept is =
-    let here : P holds meaning = subst (λ known. IfSome known (λ holds. P holds meaning)) kept is in
-    subst (P holds) (sym means) here
 
 -- what was told of the text that was read is told of the script, if what is so of a script's front is so of the script
 pub told_text : (IsRight : List ℕ → Answer → Type 0) (RunsOut : List ℕ → ℕ → Option ℕ → List ℕ → Type 0) →
@@ -127,43 +115,10 @@ runs_out_comparing-front one other script vertices line written out = record {
 
 -- ---- refusals
 
--- what the text of a name means is what it means as a deck or as a netlist, as the name has it
-pub means_by : (deck : Bool) (known : Option (List ℕ → List ℕ)) (name : List ℕ) (meaning : Result CircuitData CircuitRefusal) → deck ≡ is_deck_name name →
-    IfSome known (λ holds. circuit_by deck (holds name) ≡ meaning) → IfSome known (λ holds. circuit_named name (holds name) ≡ meaning)
-means_by deck None name meaning same means = tt
-means_by deck (Some holds) name meaning same means = subst (λ (own : Bool). circuit_by own (holds name) ≡ meaning) same means
-
--- what a deck means, or a netlist, with its refusal as one of either
-pub deck_means : (known : Option (List ℕ → List ℕ)) (name : List ℕ) (read : Result CircuitData DeckRefusal) (made : Result CircuitData CircuitRefusal) →
-    made ≡ of_deck read → IfSome known (λ holds. circuit_of (holds name) ≡ read) → IfSome known (λ holds. circuit_by true (holds name) ≡ made)
-deck_means None name read made same means = tt
-deck_means (Some holds) name read made same means = ap of_deck means ∙ sym same
-
-pub net_means : (known : Option (List ℕ → List ℕ)) (name : List ℕ) (read : Result CircuitData NetRefusal) (made : Result CircuitData CircuitRefusal) →
-    made ≡ of_net read → IfSome known (λ holds. netlist_of (holds name) ≡ read) → IfSome known (λ holds. circuit_by false (holds name) ≡ made)
-net_means None name read made same means = tt
-net_means (Some holds) name read made same means = ap of_net means ∙ sym same
-
-pub deck_circuit : (read : Result CircuitData DeckRefusal) (made : Result CircuitData CircuitRefusal) → made ≡ of_deck read → IfOk read IsCircuit → IfOk made IsCircuit
-deck_circuit read made same is = subst (λ (meaning : Result CircuitData CircuitRefusal). IfOk meaning IsCircuit) (sym same) (by read is) where
-  by : (read : Result CircuitData DeckRefusal) → IfOk read IsCircuit → IfOk (of_deck read) IsCircuit
-  by (Ok circuit) is = is
-  by (Err refusal) is = tt
-
-pub net_circuit : (read : Result CircuitData NetRefusal) (made : Result CircuitData CircuitRefusal) → made ≡ of_net read → IfOk read IsCircuit → IfOk made IsCircuit
-net_circuit read made same is = subst (λ (meaning : Result CircuitData CircuitRefusal). IfOk meaning IsCircuit) (sym same) (by read is) where
-  by : (read : Result CircuitData NetRefusal) → IfOk read IsCircuit → IfOk (of_net read) IsCircuit
-  by (Ok circuit) is = is
-  by (Err refusal) is = tt
-
--- each refusal has its answer, for which no text of a group is analysed
+-- each refusal has its answer
 pub refusal_told : (refusal : CircuitRefusal) → (answer : Answer) × IsCircuitRefusal refusal answer
 refusal_told (Net refusal) = (_, refl)
 refusal_told (Deck refusal) = (_, refl)
-
-pub refusal_texts : (refusal : CircuitRefusal) (answer : Answer) → IsCircuitRefusal refusal answer → answer.texts ≡ []
-refusal_texts (Net refusal) answer right = ap (λ (told : Answer). told.texts) right
-refusal_texts (Deck refusal) answer right = ap (λ (told : Answer). told.texts) right
 
 -- behind no text it is as it is
 pub refusal_alone : (refusal : CircuitRefusal) (answer : Answer) → IsBehind [] (IsCircuitRefusal refusal) answer → IsCircuitRefusal refusal answer
@@ -213,19 +168,13 @@ behind_by front refusal old new asked result told =
 
 -- ---- files
 
--- a text that means a circuit has no refusal
-accepted : (known : Option (List ℕ → List ℕ)) (net : List ℕ) (circuit : CircuitData) → IfSome known (λ holds. circuit_named net (holds net) ≡ Ok circuit) →
-    IfSome known (λ holds. IsAccepted (circuit_named net (holds net)))
-accepted None net circuit means = tt
-accepted (Some holds) net circuit means = subst (λ (meaning : Result CircuitData CircuitRefusal). IsAccepted meaning) (sym means) tt
-
 -- behind a circuit the others are started
 pub starts_next : (known later : Option (List ℕ → List ℕ)) (net : List ℕ) (nets : List (List ℕ)) (script : List ℕ) (circuit : CircuitData) (old mid new : Started) →
     IfSome known (λ holds. circuit_named net (holds net) ≡ Ok circuit) → later ≡ known → mid ≡ with_name old net → StartsInTurn nets script later mid new →
     StartsInTurn (net ∷ nets) script known old new
 starts_next known later net nets script circuit old mid new means kept first beside =
     inr (
-      accepted known net circuit means,
+      accepted (circuit_named net) known net circuit means,
       subst (λ (started : Started). StartsInTurn nets script known started new) first
           (subst (λ (holds : Option (List ℕ → List ℕ)). StartsInTurn nets script holds mid new) kept beside),
     )

@@ -5,11 +5,12 @@ use Rattle.netlist.specs.Circuits.{CircuitData}
 use Rattle.run_ends.specs.Answers.{Answer}
 use Rattle.session_meaning.specs.Sessions.{start_of}
 use Rattle.symbol_meaning.proofs.UniqueAnswers.{answers_unique}
-use Rattle.symbol_app.specs.declared.named.CircuitRefusal.{CircuitRefusal}
-use Rattle.symbol_app.specs.declared.named.CircuitRefusal.TheVariants.{Deck, Net}
+use Rattle.cosmos_app.specs.declared.named.CircuitRefusal.{CircuitRefusal}
+use Rattle.cosmos_app.specs.declared.named.CircuitRefusal.TheVariants.{Deck, Net}
 use Rattle.symbol_app.specs.Comparisons.{IsComparedBehind, IsComparedOver}
 use Rattle.symbol_app.specs.Laws.{ComparisonsHaveOneAnswer, SymbolicRunsHaveOneAnswer}
-use Rattle.symbol_app.specs.Named.{answer_behind, circuit_named, IsBehind, IsCircuitRefusal}
+use Rattle.cosmos_app.specs.Named.{circuit_named, IsCircuitRefusal, IsOverEither}
+use Rattle.symbol_app.specs.InTurn.{answer_behind, IsBehind}
 use Rattle.symbol_app.specs.Symbolic.{IsSymbolicOver}
 use Rattle.symbol_app.proofs.UniqueComparisons.{equal_unique}
 
@@ -22,6 +23,14 @@ behind_unique : (front : List ℕ) (refusal : CircuitRefusal) (first second : An
     IsBehind front (IsCircuitRefusal refusal) second → first ≡ second
 behind_unique front refusal first second (own, right, is) (other, also, same) =
     is ∙ ap (answer_behind front) (refusal_unique refusal own other right also) ∙ sym same
+
+-- so what is told of a netlist or a deck has one answer, if it has one in a circuit
+pub either_unique : (IsRight : CircuitData → Answer → Type 0) →
+    ((circuit : CircuitData) (first second : Answer) → IsRight circuit first → IsRight circuit second → first ≡ second) →
+    (meaning : Result CircuitData CircuitRefusal) (first second : Answer) → IsOverEither IsRight meaning first → IsOverEither IsRight meaning second →
+    first ≡ second
+either_unique IsRight each (Ok circuit) first second one two = each circuit first second one two
+either_unique IsRight each (Err refusal) first second one two = refusal_unique refusal first second one two
 
 -- a run under all valuations
 symbolic_over_unique : (script : List ℕ) (meaning : Result CircuitData CircuitRefusal) (first second : Answer) → IsSymbolicOver script meaning first →

@@ -1,10 +1,9 @@
 -- The words have one answer, unless they ask for a listing or for reasons; of these the status and the texts that are analysed are one.
-use Rattle.std.proofs.Common.{◌≡◌, ℕ, Bool, true, false, List, refl, sym, ◌∙◌}
+use Rattle.std.proofs.Common.{◌≡◌, ℕ, false, List, refl, sym, ◌∙◌}
 use Rattle.line_words.specs.Files.{lines_in, cut_line}
 use Rattle.netlist.specs.Circuits.{CircuitData}
 use Rattle.sim_read.specs.Meaning.{netlist_of}
 use Rattle.spice_read.specs.Making.{circuit_of}
-use Rattle.command_line.specs.Decks.{is_deck_name}
 use Rattle.command_line.specs.Requests.{Question, Simulate, Batch, Check, Groups, Compile, Lint, Explain, Judge, Cover, Request, About, Generate, SumUp, OverDeck, Show, Unclear, request_of}
 use Rattle.command_line.proofs.ColumnLemmas.{HasColumns, AsksColumns, asks_columns}
 use Rattle.session_meaning.specs.Sessions.{start_of}
@@ -19,8 +18,9 @@ use Rattle.script_reports.proofs.UniqueAnswers.{sample_unique, reasoned_alike, c
 use Rattle.cosmos_app.specs.Answers.{IsSimulation, IsAnswerIn, IsAnswerTo}
 use Rattle.dump_run.specs.Dumped.{IsDumped}
 use Rattle.dump_run.proofs.UniqueDumps.{dump_answer_unique}
-use Rattle.cosmos_app.specs.Dumping.{IsDumpBy}
+use Rattle.cosmos_app.specs.Named.{circuit_named}
 use Rattle.symbol_app.specs.Laws.{leaves_choice, asks_choice, AnswersAreUnique, AnswersAreAlike, DumpsHaveOneAnswer}
+use Rattle.symbol_app.proofs.SymbolicAnswers.{either_unique}
 
 -- ---- one answer
 
@@ -100,12 +100,5 @@ answers_alike words holds first second one two = request_alike (request_of words
 dumped_unique : (script : List ℕ) (c : CircuitData) (first second : Answer) → IsDumped script c first → IsDumped script c second → first ≡ second
 dumped_unique script c first second one two = dump_answer_unique script (start_of c) first second one two
 
-dump_by_unique : (deck : Bool) (text script : List ℕ) (first second : Answer) → IsDumpBy deck text script first → IsDumpBy deck text script second →
-    first ≡ second
-dump_by_unique true text script first second one two =
-    circuit.over_deck_unique (IsDumped script) (dumped_unique script) (circuit_of text) first second one two
-dump_by_unique false text script first second one two =
-    circuit.over_unique (IsDumped script) (dumped_unique script) (netlist_of text) first second one two
-
 pub dumps_unique : DumpsHaveOneAnswer
-dumps_unique net script holds first second one two = dump_by_unique (is_deck_name net) (holds net) (holds script) first second one two
+dumps_unique net script holds = either_unique (IsDumped (holds script)) (dumped_unique (holds script)) (circuit_named net (holds net))

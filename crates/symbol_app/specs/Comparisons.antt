@@ -13,8 +13,9 @@ use Rattle.symbol_equiv.specs.declared.fault.EqualFault.{EqualFault}
 use Rattle.symbol_equiv.specs.declared.fault.EqualFault.TheVariants as fault
 use Rattle.symbol_app.specs.declared.ends.SymbolEnd.{SymbolEnd}
 use Rattle.symbol_app.specs.declared.ends.SymbolEnd.TheVariants.{Ended, Full}
-use Rattle.symbol_app.specs.declared.named.CircuitRefusal.{CircuitRefusal}
-use Rattle.symbol_app.specs.Named.{IsBehind, IsCircuitRefusal, circuit_named}
+use Rattle.cosmos_app.specs.declared.named.CircuitRefusal.{CircuitRefusal}
+use Rattle.cosmos_app.specs.Named.{IsCircuitRefusal, circuit_named}
+use Rattle.symbol_app.specs.InTurn.{IsBehind}
 use Rattle.symbol_app.specs.Symbolic.{stop_unread, IsNever, IsToldInAll}
 
 -- how a comparison ends, which may have so many vertices

@@ -6,7 +6,7 @@ use Rattle.circuit_reports.specs.Alike.{AreAlike}
 use Rattle.cosmos_app.specs.Answers.{IsAnswer}
 use Rattle.symbol_app.specs.Comparisons.{IsComparedOver}
 use Rattle.cosmos_app.specs.Dumping.{IsDump}
-use Rattle.symbol_app.specs.Named.{circuit_named}
+use Rattle.cosmos_app.specs.Named.{circuit_named}
 use Rattle.symbol_app.specs.Symbolic.{IsSymbolicOver}
 
 -- the question leaves a choice: any faithful listing answers it, or any of the strongest reasons

@@ -1,4 +1,4 @@
-pub mod Named
+pub mod InTurn
 pub mod Symbolic
 pub mod Comparisons
 pub mod Laws

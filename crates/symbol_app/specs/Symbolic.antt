@@ -19,8 +19,8 @@ use Rattle.symbol_run.specs.declared.session.SymbolFault.{SymbolFault}
 use Rattle.symbol_run.specs.declared.session.SymbolFault.TheVariants as fault
 use Rattle.symbol_app.specs.declared.ends.SymbolEnd.{SymbolEnd}
 use Rattle.symbol_app.specs.declared.ends.SymbolEnd.TheVariants.{Ended, Full}
-use Rattle.symbol_app.specs.declared.named.CircuitRefusal.{CircuitRefusal}
-use Rattle.symbol_app.specs.Named.{IsCircuitRefusal, circuit_named}
+use Rattle.cosmos_app.specs.declared.named.CircuitRefusal.{CircuitRefusal}
+use Rattle.cosmos_app.specs.Named.{IsCircuitRefusal, circuit_named}
 
 -- ---- ends
 

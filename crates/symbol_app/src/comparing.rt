@@ -12,13 +12,15 @@ ghost use Rattle.run_ends.specs.Stops.{faults_read, faults_written, IsRefusedOnc
 ghost use Rattle.symbol_meaning.specs.Scripts.{read_of, variables_of};
 ghost use Rattle.symbol_reading.specs.Reading.{read_data};
 ghost use Rattle.symbol_app.specs.Comparisons.{IsComparedBehind, IsComparedIn, IsComparedTo, RunsOutBehind, RunsOutComparing};
-ghost use Rattle.symbol_app.specs.Named.{circuit_named, read_in_turn, IsBehind, IsCircuitRefusal, StartsInTurn};
+ghost use Rattle.cosmos_app.specs.Named.{circuit_named, IsCircuitRefusal};
+ghost use Rattle.symbol_app.specs.InTurn.{read_in_turn, IsBehind, StartsInTurn};
 ghost use Rattle.symbol_app.specs.Symbolic.{IsNever, IsToldInAll};
 
 use crate::ends::{SymbolEnd, end_of_comparison};
-use crate::named::{CircuitRefusal, read_named, refuse_in_all};
 use crate::other_net::OtherNet;
+use crate::refusals::refuse_in_all;
 use circuit_files::read_file;
+use cosmos_app::{CircuitRefusal, read_named};
 use group_analysis::Analyst;
 use line_words::MOST_FILE_BYTES;
 use netlist::Circuit;

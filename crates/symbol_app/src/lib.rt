@@ -14,12 +14,11 @@
 mod comparing;
 mod ends;
 mod laws;
-mod named;
 mod other_net;
+mod refusals;
 mod symbols;
 
 pub use comparing::equiv;
 pub use ends::{SymbolEnd, symbol_status};
 pub use laws::answers_are_unique;
-pub use named::CircuitRefusal;
 pub use symbols::symbolic;

@@ -13,12 +13,13 @@ ghost use Rattle.symbol_meaning.specs.Readings.{valuations_of};
 ghost use Rattle.symbol_meaning.specs.Scripts.{before_stop, read_of, stop_of};
 ghost use Rattle.symbol_reading.specs.Reading.{read_data};
 ghost use Rattle.symbol_session.specs.Sessions.{ServesLines, data_of, valuations_by};
-ghost use Rattle.symbol_app.specs.Named.{read_in_turn, StartsInTurn};
+ghost use Rattle.symbol_app.specs.InTurn.{read_in_turn, StartsInTurn};
 ghost use Rattle.symbol_app.specs.Symbolic.{IsBrokenAtStart, IsSymbolic, IsSymbolicTo, IsToldInAll, RunsOutAt};
 
 use crate::ends::{SymbolEnd, end_of_run};
-use crate::named::{read_named, refuse_in_all};
+use crate::refusals::refuse_in_all;
 use circuit_files::read_file;
+use cosmos_app::read_named;
 use group_analysis::Analyst;
 use line_words::MOST_FILE_BYTES;
 use netlist::Circuit;

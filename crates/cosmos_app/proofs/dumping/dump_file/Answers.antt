@@ -1,7 +1,5 @@
 -- What was told of the text that was read is told of the script.
-use Rattle.std.proofs.Common.{◌∙◌}
 use Rattle.ports.proofs.ResultLemmas.{at_ok}
-use Rattle.run_ends.proofs.EndLemmas.{read_none, untouched_none}
 use Rattle.circuit_files.proofs.WholeLemmas.{whole_file}
 use Rattle.cosmos_app.proofs.DumpLemmas.{told_dumped}
 use Rattle.cosmos_app.proofs.dumping.dump_file.Goals as goal
@@ -13,16 +11,8 @@ returns-in-Ok-clause-told g c =
     (g.A.Analyst.analysed c.dump_script.new.analyst) c.dump_script.result.1
     c.in-Ok.ensures.bytes c.deref.ensures.value c.dump_script.ensures.told
 
-pub returns-in-Ok-clause-read : goal.returns-in-Ok-clause-read
-returns-in-Ok-clause-read g c =
-    c.in-Ok.ensures.read ∙ read_none (g.F.Files.faults c.args.files.now) c.dump_script.result.1 c.dump_script.ensures.no_read
-
 pub returns-in-Ok-clause-whole : goal.returns-in-Ok-clause-whole
 returns-in-Ok-clause-whole g c =
     at_ok c.dump_script.result.1
     (whole_file (g.F.Files.holds c.args.files.now) c.args.script.now c.in-Ok.text.items (g.F.Files.taken c.args.files.now)
     (g.F.Files.taken c.read_file.new.files) c.in-Ok.ensures.bytes c.in-Ok.ensures.whole)
-
-pub returns-in-Ok-clause-untouched : goal.returns-in-Ok-clause-untouched
-returns-in-Ok-clause-untouched g c =
-    untouched_none (g.S.Sink.written c.args.out) (g.S.Sink.written c.dump_script.result.0) c.dump_script.result.1 c.dump_script.ensures.no_read

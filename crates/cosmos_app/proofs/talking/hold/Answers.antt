@@ -7,8 +7,3 @@ pub returns-in_err-circuit-clause-told : goal.returns-in_err-circuit-clause-told
 returns-in_err-circuit-clause-told g c =
     let stopped = err_from_is_err_and c.from_residual.result c.from_residual.ensures.1 in
     rw stopped.1 (untalked (g.F.Files.holds c.args.files.now) c.args.net.now _ c.args.out.now.spoken.talk _)
-
-pub returns-in_err-circuit-2-clause-told : goal.returns-in_err-circuit-2-clause-told
-returns-in_err-circuit-2-clause-told g c =
-    let stopped = err_from_is_err_and c.from_residual-in_err-circuit-2.result c.from_residual-in_err-circuit-2.ensures.1 in
-    rw stopped.1 (untalked (g.F.Files.holds c.args.files.now) c.args.net.now _ c.args.out.now.spoken.talk _)

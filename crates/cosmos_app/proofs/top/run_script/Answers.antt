@@ -1,7 +1,5 @@
 -- What was told of the text that was read is told of the script.
-use Rattle.std.proofs.Common.{◌∙◌}
 use Rattle.ports.proofs.ResultLemmas.{at_ok}
-use Rattle.run_ends.proofs.EndLemmas.{read_none, untouched_none}
 use Rattle.cosmos_app.proofs.PurposeLemmas.{told_run_for}
 use Rattle.circuit_files.proofs.WholeLemmas.{whole_file}
 use Rattle.cosmos_app.proofs.top.run_script.Goals as goal
@@ -13,14 +11,8 @@ returns-clause-told g c =
     (g.A.Analyst.analysed c.run_text.new.analyst) c.run_text.result
     c.in_ok-text.ensures.bytes c.deref.ensures.value c.run_text.ensures.told
 
-pub returns-clause-read : goal.returns-clause-read
-returns-clause-read g c = c.in_ok-text.ensures.read ∙ read_none (g.F.Files.faults c.args.files.now) c.run_text.result c.run_text.ensures.no_read
-
 pub returns-clause-whole : goal.returns-clause-whole
 returns-clause-whole g c =
     at_ok c.run_text.result
     (whole_file (g.F.Files.holds c.args.files.now) c.args.script.now c.in_ok-text.text.items (g.F.Files.taken c.args.files.now)
     (g.F.Files.taken c.read_file.new.files) c.in_ok-text.ensures.bytes c.in_ok-text.ensures.whole)
-
-pub returns-clause-untouched : goal.returns-clause-untouched
-returns-clause-untouched g c = untouched_none c.args.out.now c.run_text.new.out c.run_text.result c.run_text.ensures.no_read

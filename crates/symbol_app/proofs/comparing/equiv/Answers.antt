@@ -5,10 +5,10 @@ use Rattle.ports.proofs.TakenLemmas.{files_both}
 use Rattle.run_ends.specs.Stops.{faults_read}
 use Rattle.circuit_files.proofs.FeedingLemmas.{at_each}
 use Rattle.symbol_app.specs.Comparisons.{IsComparedOver, RunsOutOverBoth}
-use Rattle.symbol_app.specs.Named.{circuit_named}
+use Rattle.cosmos_app.specs.Named.{circuit_named}
 use Rattle.symbol_app.specs.Symbolic.{IsToldInAll}
-use Rattle.cosmos_app.proofs.NetLemmas.{means_as}
-use Rattle.symbol_app.proofs.SymbolLemmas.{of_meaning, read_none_in_all, starts_next, untouched_in_all, whole_last, whole_next}
+use Rattle.cosmos_app.proofs.NetLemmas.{means_as, of_meaning}
+use Rattle.symbol_app.proofs.SymbolLemmas.{read_none_in_all, starts_next, untouched_in_all, whole_last, whole_next}
 use Rattle.symbol_app.proofs.comparing.equiv.Goals as goal
 
 pub returns-in-Ok-Ok-clause-answer : goal.returns-in-Ok-Ok-clause-answer

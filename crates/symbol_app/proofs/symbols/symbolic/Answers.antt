@@ -4,10 +4,11 @@ use Rattle.ports.proofs.ResultLemmas.{at_known, at_ok}
 use Rattle.ports.proofs.TakenLemmas.{files_both}
 use Rattle.run_ends.specs.Stops.{faults_read}
 use Rattle.circuit_files.proofs.FeedingLemmas.{at_each}
-use Rattle.symbol_app.specs.Named.{circuit_named, IsBehind, IsCircuitRefusal}
+use Rattle.cosmos_app.specs.Named.{circuit_named, IsCircuitRefusal}
+use Rattle.symbol_app.specs.InTurn.{IsBehind}
 use Rattle.symbol_app.specs.Symbolic.{IsNever, IsSymbolicOver, IsToldInAll, RunsOutOver}
-use Rattle.cosmos_app.proofs.NetLemmas.{means_as}
-use Rattle.symbol_app.proofs.SymbolLemmas.{of_meaning, read_none_in_all, refusal_alone, starts_next, told_in_all_as, untouched_in_all, whole_last, whole_next}
+use Rattle.cosmos_app.proofs.NetLemmas.{means_as, of_meaning}
+use Rattle.symbol_app.proofs.SymbolLemmas.{read_none_in_all, refusal_alone, starts_next, told_in_all_as, untouched_in_all, whole_last, whole_next}
 use Rattle.symbol_app.proofs.symbols.symbolic.Goals as goal
 
 pub returns-in-Ok-Ok-clause-answer : goal.returns-in-Ok-Ok-clause-answer

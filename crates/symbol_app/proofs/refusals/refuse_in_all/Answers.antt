@@ -1,7 +1,7 @@
 -- What was told of the refusal is told in the place of a run, for which no text of a group is analysed.
 use Rattle.std.proofs.Common.{Ok, Err}
 use Rattle.symbol_app.proofs.SymbolLemmas.{behind_by}
-use Rattle.symbol_app.proofs.named.refuse_in_all.Goals as goal
+use Rattle.symbol_app.proofs.refusals.refuse_in_all.Goals as goal
 
 pub returns-in-Ok-clause-told : goal.returns-in-Ok-clause-told
 returns-in-Ok-clause-told g c asked =

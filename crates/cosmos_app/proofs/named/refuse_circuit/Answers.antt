@@ -1,9 +1,9 @@
 -- What is told of the refusal of a netlist, or of a deck, is told of the refusal.
 use Rattle.std.proofs.Common.{sym, subst}
 use Rattle.run_ends.specs.Ends.{IsTold}
-use Rattle.symbol_app.specs.declared.named.CircuitRefusal.{CircuitRefusal}
-use Rattle.symbol_app.specs.Named.{IsCircuitRefusal}
-use Rattle.symbol_app.proofs.named.refuse_circuit.Goals as goal
+use Rattle.cosmos_app.specs.declared.named.CircuitRefusal.{CircuitRefusal}
+use Rattle.cosmos_app.specs.Named.{IsCircuitRefusal}
+use Rattle.cosmos_app.proofs.named.refuse_circuit.Goals as goal
 
 pub returns-in-Net-clause-told : goal.returns-in-Net-clause-told
 returns-in-Net-clause-told g c =

@@ -1,9 +1,9 @@
 -- The text and the line behind it were written, or a part of both.
 use Rattle.std.proofs.Common.{ap, ◌∙◌}
 use Rattle.run_ends.specs.Stops.{faults_written}
-use Rattle.symbol_app.specs.Named.{IsCircuitRefusal}
+use Rattle.cosmos_app.specs.Named.{IsCircuitRefusal}
 use Rattle.symbol_app.proofs.SymbolLemmas.{part_behind, refusal_told, told_behind}
-use Rattle.symbol_app.proofs.named.refuse_behind.Goals as goal
+use Rattle.symbol_app.proofs.refusals.refuse_behind.Goals as goal
 
 pub returns-in-Ok-clause-told : goal.returns-in-Ok-clause-told
 returns-in-Ok-clause-told g c =
